@@ -1,0 +1,16 @@
+-- FIPS 180-4, section 5.1.1: the padding of a message of whole bytes.
+use Prim.Native.Nat.{ℕ, _-_, _*_, _%_}
+use mathlib.Core.List.{List, _∷_, _++_}
+use lib.ListN.{length, replicate}
+use Rattle.sha256.specs.Bytes.{bytes}
+
+-- The fewest zeros that, behind n bytes and one more, and before eight, make up whole blocks of 64 bytes.
+abbrev pub zeros : ℕ → ℕ
+zeros n = (119 - n % 64) % 64
+
+-- A message of n bytes is followed by a bit 1 and zeros, and then by its length in bits, in eight bytes.
+unfoldable pub padding : ℕ → List ℕ
+padding n = 0x80 ∷ replicate (zeros n) 0 ++ bytes 8 (8 * n)
+
+unfoldable pub padded : List ℕ → List ℕ
+padded m = m ++ padding (length m)
