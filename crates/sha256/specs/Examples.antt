@@ -1,5 +1,4 @@
--- The published examples of SHA-256: the one-block and the two-block message of FIPS 180-2's appendix B, which NIST's example pages for FIPS 180-4 repeat,
--- the empty message and the message of 896 bits.
+-- Published examples of SHA-256: the empty message, NIST's messages of one block and of two, and that of 896 bits.
 use mathlib.Core.Path.{_≡_}
 use Rattle.sha256.specs.Bytes.{bytes}
 use Rattle.sha256.specs.Digest.{sha256}

@@ -1,10 +1,9 @@
 // The state of a hash under way, by value: new, fed any number of parts, finished. Only the product's own parts call it.
 ghost use mathlib.Core.Path.{_≡_};
-ghost use mathlib.Core.List.{List, [], _∷_, _++_};
-ghost use Prim.Native.Nat.{ℕ, _+_, _≤_, _<_, _^_};
+ghost use mathlib.Core.List.{List, [], _∷_};
+ghost use Prim.Native.Nat.{ℕ, _+_, _<_, _^_};
 ghost use lib.ListN.{length, replicate};
 ghost use Rattle.sha256.specs.Digest.{H⁰, sha256};
-ghost use Rattle.sha256.specs.Padding.{zeros};
 ghost use Rattle.sha256.specs.State.{Taken, Fed};
 use crate::bytes::bit_length;
 use crate::bytes::digest;
@@ -34,15 +33,8 @@ pub fn initial() -> Variables
     }
 }
 
-// How many zeros the padding of a message of n bytes has.
-pub fn zero_bytes(n: usize) -> usize
-    ensures { λ r. ⌜ r ≡ zeros n ⌝ }
-{
-    (119 - n % 64) % 64
-}
-
-// A bit 1 and zeros: the padding of any message begins with a part of it.
-pub fn mark() -> [u8; 64]
+// A bit 1 and zeros: the padding begins with a part of it.
+fn mark() -> [u8; 64]
     ensures { λ r. ⌜ r ≡ 0x80 ∷ replicate 63 0 ⌝ }
 {
     let mut m = [0u8; 64];
@@ -99,11 +91,21 @@ impl Sha256 {
         ensures { λ r. ⌜ ((m : List ℕ) → Taken self m → r ≡ sha256 m) ⌝ }
     {
         let n = self.n;
-        let end = zero_bytes(n) + 1;
+        let used = n % 64;
+        let h = self.h;
+        let buf = self.buf;
         let marked = mark();
         let bits = bit_length(n);
-        let s = self.feed(&marked[..end]).feed(&bits);
-        let h = s.h;
-        digest(h)
+        if used < 56 {
+            let rest = 56 - used;
+            let ended = written(buf, used, &marked[..rest]);
+            let last = written(ended, 56, &bits);
+            digest(compress(h, &last, 0))
+        } else {
+            let rest = 64 - used;
+            let ended = written(buf, used, &marked[..rest]);
+            let last = written([0; 64], 56, &bits);
+            digest(compress(compress(h, &ended, 0), &last, 0))
+        }
     }
 }

@@ -2,7 +2,7 @@
 use mathlib.Core.Path.{refl}
 use Rattle.sha256.specs.Bytes.{bytes}
 use Rattle.sha256.specs.Digest.{digestOf}
-use Rattle.sha256.proofs.Laws.{both}
+use Rattle.sha256_block.proofs.Laws.{both}
 use Rattle.sha256.proofs.bytes.digest.Statement.{statement}
 use Rattle.sha256.proofs.bytes.digest.Tie as tie
 

@@ -1,4 +1,3 @@
-use borrow.Author.Needs.{needs}
 use Rattle.sha256_block.specs.Block.{roundOf, T₁, T₂}
 use Rattle.sha256_block.proofs.rounds.round.Statement.{statement}
 use Rattle.sha256_block.proofs.rounds.round.Tie as tie

@@ -1,4 +1,3 @@
-use borrow.Author.Needs.{needs}
 use Rattle.sha256_block.specs.Block.{sumOf}
 use Rattle.sha256_block.proofs.rounds.sum.Statement.{statement}
 use Rattle.sha256_block.proofs.rounds.sum.Tie as tie

@@ -1,4 +1,3 @@
-use borrow.Author.Needs.{needs}
 use Rattle.sha256_block.specs.Block.{nextWord}
 use Rattle.sha256_block.proofs.schedule.next_word.Statement.{statement}
 use Rattle.sha256_block.proofs.schedule.next_word.Tie as tie

@@ -1,61 +1,76 @@
--- The two parts of the padding are fed, and the hash value is then that of the padded message.
-use Prim.Native.Nat.{ℕ, _+_, _*_}
+-- The padding goes behind the bytes that are left: into their block, or into that and one more.
+use Prim.Native.Nat.{_-_, _%_}
 use native.Mathlib.Omega.{arith}
 use borrow.Author.Needs.{needs}
-use mathlib.Core.Path.{_≡_, ap, sym, subst, _∙_}
-use mathlib.Core.List.{List, _++_}
-use lib.ListN.{length, take}
-use Rattle.sha256.specs.Bytes.{bytes}
-use Rattle.sha256.specs.Padding.{zeros, padded}
-use Rattle.sha256.specs.State.{Taken}
-use Rattle.sha256.proofs.Ending.{marked, marked-front, front-length, ended, finished}
+use mathlib.Core.Path.{sym}
+use Rattle.sha256.proofs.Ending.{shorter, shorter-length, one, two}
 use Rattle.sha256.proofs.state.Sha256.finish.Statement.{statement}
 use Rattle.sha256.proofs.state.Sha256.finish.Tie as tie
 
--- How long the first part is.
-marked-part : (c : tie.After-bit-length) → length (take (c .before .before .zero-bytes .result + 1) (c .before .mark .result)) ≡ c .before .before .zero-bytes .result + 1
-marked-part c =
-    let z = c .before .before .zero-bytes in
-    front-length (c .before .mark .result) (z .result) (c .before .mark .ensures) (omega (arith, z .ensures))
+slice-aggregate-written : tie.Need-slice-aggregate-written
+slice-aggregate-written c = sym (shorter-length _ _ (c .before .before .before .mark .ensures) (omega arith))
 
-slice-aggregate-feed : tie.Need-slice-aggregate-feed
-slice-aggregate-feed c = sym (marked-part (c .before))
+written-requires : tie.Need-written-requires
+written-requires c κs =
+    let at-mark = c .before .before .before in
+    omega (arith, shorter-length (at-mark .mark .result) (56 - at-mark .before .before .before .args .self .n % 64) (at-mark .mark .ensures) (omega arith))
 
-feed-requires : tie.Need-feed-requires
-feed-requires c κs = omega (arith, marked-part (c .before), c .before .before .before .zero-bytes .ensures)
+slice-aggregate-written-3 : tie.Need-slice-aggregate-written-3
+slice-aggregate-written-3 c = sym (shorter-length _ _ (c .before .before .before .mark .ensures) (omega arith))
 
-feed-requires-2 : tie.Need-feed-requires-2
-feed-requires-2 c κs =
-    let d = c .before .before .before in
-    omega (arith, marked-part d, d .before .before .zero-bytes .ensures, c .before .feed .ensures .longer)
+written-requires-3 : tie.Need-written-requires-3
+written-requires-3 c κs =
+    let at-mark = c .before .before .before in
+    omega (arith, shorter-length (at-mark .mark .result) (64 - at-mark .before .before .before .args .self .n % 64) (at-mark .mark .ensures) (omega arith))
 
 returns : tie.Need-returns
 returns c m t =
-    let fed₂ = c .before .before in
-    let fed₁ = fed₂ .before .before in
-    let at-bits = fed₁ .before .before in
+    let last = c .before .before .before in
+    let ended = last .before .before in
+    let at-bits = ended .before .before .before in
     let at-mark = at-bits .before in
-    let z = at-mark .before .zero-bytes in
-    let p : take (z .result + 1) (at-mark .mark .result) ≡ marked (zeros (length m)) =
-    marked-front (at-mark .mark .result) (z .result) (at-mark .mark .ensures) (omega (arith, z .ensures))
-    ∙ ap marked (z .ensures ∙ ap zeros (t .count)) in
-    let q : at-bits .bit-length .result ≡ bytes 8 (8 * length m) = at-bits .bit-length .ensures ∙ ap (λ (i : ℕ). bytes 8 (8 * i)) (t .count) in
-    let e : (m ++ take (z .result + 1) (at-mark .mark .result)) ++ at-bits .bit-length .result ≡ padded m =
-    ap (λ (x : List ℕ). (m ++ x) ++ at-bits .bit-length .result) p ∙ ap (λ (x : List ℕ). (m ++ marked (zeros (length m))) ++ x) q ∙ ended m in
-    finished _ m (subst (Taken (fed₂ .feed2 .result)) e (fed₂ .feed2 .ensures .taken _ (fed₁ .feed .ensures .taken m t))) (c .digest .ensures)
+    let s = at-mark .before .before .before .args .self in
+    one s m _ _ (ended .written .result) (last .written2 .result) t (omega arith)
+    (shorter (at-mark .mark .result) (55 - s .n % 64) (56 - s .n % 64) (at-mark .mark .ensures) (omega arith) (omega arith))
+    (at-bits .bit-length .ensures) (ended .written .ensures) (last .written2 .ensures) (c .before .compress .ensures) (c .digest .ensures)
+
+returns-2 : tie.Need-returns-2
+returns-2 c m t =
+    let filled = c .before .before .before in
+    let last = filled .before .before in
+    let ended = last .before .before in
+    let at-bits = ended .before .before .before in
+    let at-mark = at-bits .before in
+    let s = at-mark .before .before .before .args .self in
+    two s m _ _ (ended .written3 .result) (last .written4 .result) t (omega arith)
+    (shorter (at-mark .mark .result) (63 - s .n % 64) (64 - s .n % 64) (at-mark .mark .ensures) (omega arith) (omega arith))
+    (at-bits .bit-length .ensures) (ended .written3 .ensures) (last .written4 .ensures) (filled .compress2 .ensures) (c .before .compress3 .ensures) (c .digest2 .ensures)
 
 pub finish-spec : {M : Type 1} → statement M
 finish-spec =
     tie.close
     (tie.spec
     (λ c κs. tt)
-    (λ c. search needs)
-    (λ c κs. tt)
     (λ c κs. search needs)
     (λ c. search needs)
-    slice-aggregate-feed
-    feed-requires
     (λ c. search needs)
-    feed-requires-2
+    slice-aggregate-written
+    written-requires
+    (λ c. search needs)
+    (λ c κs. search needs)
+    (λ c. search needs)
+    (λ c κs. search needs)
     (λ c κs. tt)
-    returns)
+    (λ c. search needs)
+    (λ c. search needs)
+    slice-aggregate-written-3
+    written-requires-3
+    (λ c. search needs)
+    (λ c κs. search needs)
+    (λ c. search needs)
+    (λ c κs. search needs)
+    (λ c. search needs)
+    (λ c κs. search needs)
+    (λ c κs. tt)
+    returns
+    returns-2)

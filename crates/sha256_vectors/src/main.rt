@@ -1,0 +1,127 @@
+// Prints the SHA-256 digests of published messages and of messages around the edges of blocks and of the limit:
+// by the public hash, by a state fed in parts, and of two parts in one block.
+ghost use mathlib.Core.Path.{_≡_};
+ghost use Prim.Native.Nat.{_-_, _≤_};
+ghost use lib.ListN.{length};
+use libc::STDOUT_FILENO;
+use sha256::Sha256;
+
+// Byte i of the long message is 7 * i + 3, modulo 256.
+fn long_message() -> [u8; 65537]
+    ensures { λ r. ⌜ 65537 ≡ length r ⌝ }
+{
+    let mut m = [0u8; 65537];
+    for i in 0..65537 {
+        m[i] = ((7 * i + 3) % 256) as u8;
+    }
+    m
+}
+
+// The bytes of m from one place up to another.
+fn part(m: &[u8], from: usize, to: usize) -> &[u8]
+    requires { ⌜ (from ≤ to) × (to ≤ length (now m)) ⌝ }
+    ensures { λ r. ⌜ length (now r) ≡ to - from ⌝ }
+{
+    &m[from..to]
+}
+
+fn wide(x: u8) -> u64 {
+    x as u64
+}
+
+fn print_digest(digest: [u8; 32]) {
+    for i in 0..32 {
+        io::print_hex(STDOUT_FILENO, wide(digest[i]), 2);
+    }
+    io::write_all(STDOUT_FILENO, b"\n");
+}
+
+// The refusal and the digest.
+fn print_hash(bytes: &[u8]) {
+    let answer = sha256::hash(bytes);
+    let refusal = answer.refusal;
+    let digest = answer.digest;
+    io::print_decimal(STDOUT_FILENO, wide(refusal));
+    io::write_all(STDOUT_FILENO, b" ");
+    print_digest(digest);
+}
+
+// The digest by a state that is fed three parts.
+fn print_parts(m: &[u8]) {
+    let n = m.len();
+    let third = n / 3;
+    let half = n / 2;
+    let first = part(m, 0, third);
+    let second = part(m, third, half);
+    let last = part(m, half, n);
+    let state = Sha256::new().feed(first).feed(second).feed(last);
+    if state.n <= 65536 {
+        io::write_all(STDOUT_FILENO, b"  in three parts ");
+        print_digest(state.finish());
+    }
+}
+
+// The length, and the digest of so many bytes of m.
+fn print_length(m: &[u8], n: usize) {
+    if m.len() < n {
+        return;
+    }
+    let message = part(m, 0, n);
+    io::write_all(STDOUT_FILENO, b"n=");
+    io::print_decimal(STDOUT_FILENO, n as u64);
+    io::write_all(STDOUT_FILENO, b" ");
+    print_hash(message);
+    print_parts(message);
+}
+
+// The digest of the first 55 bytes of m, as two parts of which the first ends at byte at.
+fn print_pair(m: &[u8], at: usize) {
+    if m.len() < 55 {
+        return;
+    }
+    if 55 < at {
+        return;
+    }
+    let digest = sha256::hash_pair(part(m, 0, at), part(m, at, 55));
+    io::write_all(STDOUT_FILENO, b"  in two parts, the first of ");
+    io::print_decimal(STDOUT_FILENO, at as u64);
+    io::write_all(STDOUT_FILENO, b" ");
+    print_digest(digest);
+}
+
+// Lengths around one block and two, and around the limit.
+fn print_edges(m: &[u8]) {
+    print_length(m, 0);
+    print_length(m, 1);
+    print_length(m, 54);
+    print_length(m, 55);
+    print_pair(m, 0);
+    print_pair(m, 23);
+    print_pair(m, 55);
+    print_length(m, 56);
+    print_length(m, 57);
+    print_length(m, 63);
+    print_length(m, 64);
+    print_length(m, 65);
+    print_length(m, 118);
+    print_length(m, 119);
+    print_length(m, 120);
+    print_length(m, 127);
+    print_length(m, 128);
+    print_length(m, 129);
+    print_length(m, 1000);
+    print_length(m, 65535);
+    print_length(m, 65536);
+    print_hash(m);
+}
+
+fn main() {
+    print_hash(b"");
+    print_hash(b"abc");
+    print_hash(b"abcdbcdecdefdefgefghfghighijhijkijkljklmklmnlmnomnopnopq");
+    print_hash(
+        b"abcdefghbcdefghicdefghijdefghijkefghijklfghijklmghijklmnhijklmnoijklmnopjklmnopqklmnopqrlmnopqrsmnopqrstnopqrstu",
+    );
+    let m = long_message();
+    print_edges(&m);
+}
