@@ -8,7 +8,7 @@ use lib.Seq.{paste, take-at, drop-at, length-take-le}
 use Rattle.sha256_block.specs.declared.rounds.Variables.{Variables}
 use Rattle.sha256_block.specs.Block.{compressOf}
 use Rattle.sha256.specs.declared.state.Sha256.{Sha256}
-use Rattle.sha256.specs.Bytes.{bytes}
+use Rattle.wire.specs.Numbers.{bytes}
 use Rattle.sha256.specs.Padding.{zeros, Fewest, padding, padded}
 use Rattle.sha256.specs.Digest.{hashed, blockOf, digestOf, sha256}
 use Rattle.sha256.specs.State.{Taken}

@@ -8,8 +8,8 @@ use lib.ListN.{length, take, drop, length-drop, length-take}
 use lib.Seq.{take-length, take-append-le, drop-append-le, take-paste, paste}
 use Rattle.sha256_block.specs.declared.rounds.Variables.{Variables}
 use Rattle.sha256_block.specs.Block.{compressOf}
-use Rattle.sha256_block.proofs.Laws.{both}
-use Rattle.sha256.specs.Bytes.{bytes}
+use Rattle.wire.proofs.Laws.{both}
+use Rattle.wire.specs.Numbers.{bytes}
 use Rattle.sha256.specs.Digest.{hashed, blockOf}
 
 -- Eight bytes are four and four.

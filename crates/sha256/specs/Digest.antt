@@ -4,7 +4,7 @@ use mathlib.Core.List.{List, _++_}
 use lib.ListN.{length, take, drop}
 use Rattle.sha256_block.specs.declared.rounds.Variables.{Variables}
 use Rattle.sha256_block.specs.Block.{compressOf}
-use Rattle.sha256.specs.Bytes.{bytes}
+use Rattle.wire.specs.Numbers.{bytes}
 use Rattle.sha256.specs.Padding.{padded}
 
 -- Section 5.2.1: block number i of m, counted from 0.

@@ -1,6 +1,6 @@
 -- Published examples of SHA-256: the empty message, NIST's messages of one block and of two, and that of 896 bits.
 use mathlib.Core.Path.{_≡_}
-use Rattle.sha256.specs.Bytes.{bytes}
+use Rattle.wire.specs.Numbers.{bytes}
 use Rattle.sha256.specs.Digest.{sha256}
 
 -- Each message and each digest is written as one number.

@@ -3,7 +3,7 @@ use Prim.Native.Nat.{ℕ, _+_, _-_, _*_, _%_, _≤_}
 use mathlib.Core.Path.{_≡_}
 use mathlib.Core.List.{List, _∷_, _++_}
 use lib.ListN.{length, replicate}
-use Rattle.sha256.specs.Bytes.{bytes}
+use Rattle.wire.specs.Numbers.{bytes}
 
 -- The fewest zeros that, behind n bytes and one more, and before eight, make up whole blocks of 64 bytes.
 abbrev pub zeros : ℕ → ℕ

@@ -1,11 +1,15 @@
 // Words and lengths as bytes, the highest first, and bytes written into a block.
 ghost use mathlib.Core.Path.{_≡_};
-ghost use Prim.Native.Nat.{_+_, _*_, _/_, _%_, _^_, _<_, _≤_};
+ghost use Prim.Native.Nat.{_+_, _*_, _^_, _<_, _≤_};
 ghost use lib.ListN.{length};
 ghost use lib.Seq.{paste};
-ghost use Rattle.sha256.specs.Bytes.{bytes};
+ghost use Rattle.wire.specs.Numbers.{bytes};
 ghost use Rattle.sha256.specs.Digest.{digestOf};
 use sha256_block::Variables;
+use wire::first_byte;
+use wire::fourth_byte;
+use wire::second_byte;
+use wire::third_byte;
 
 // The block b with part written into it from byte at on.
 pub fn written(b: [u8; 64], at: usize, part: &[u8]) -> [u8; 64]
@@ -19,30 +23,6 @@ pub fn written(b: [u8; 64], at: usize, part: &[u8]) -> [u8; 64]
         j += 1;
     }
     next
-}
-
-fn first_byte(w: u32) -> u8
-    ensures { λ r. ⌜ r ≡ w / 256 ^ 3 % 256 ⌝ }
-{
-    (w / 0x1000000 % 256) as u8
-}
-
-fn second_byte(w: u32) -> u8
-    ensures { λ r. ⌜ r ≡ w / 256 ^ 2 % 256 ⌝ }
-{
-    (w / 0x10000 % 256) as u8
-}
-
-fn third_byte(w: u32) -> u8
-    ensures { λ r. ⌜ r ≡ w / 256 ^ 1 % 256 ⌝ }
-{
-    (w / 0x100 % 256) as u8
-}
-
-fn fourth_byte(w: u32) -> u8
-    ensures { λ r. ⌜ r ≡ w / 256 ^ 0 % 256 ⌝ }
-{
-    (w % 256) as u8
 }
 
 // The length in bits of a message of n bytes, in eight bytes.

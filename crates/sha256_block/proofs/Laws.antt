@@ -6,9 +6,10 @@ use mathlib.Core.Path.{_≡_, refl, ap, _∙_, sym}
 use mathlib.Core.List.{List, [], _∷_, _++_, append-assoc}
 use lib.ListN.{length, getD, take, drop, length-append}
 use lib.Seq.{getD-append-add, getD-take, getD-drop}
+use Rattle.wire.specs.Numbers.{u32At}
 use Rattle.sha256_block.specs.declared.rounds.Variables.{Variables}
 use Rattle.sha256_block.specs.Constants.{K, K₀, K₁₆, K₃₂, K₄₈}
-use Rattle.sha256_block.specs.Block.{roundOf, rounds, extended, Wₜ, schedule, sumOf, compressOf, wordAt, words}
+use Rattle.sha256_block.specs.Block.{roundOf, rounds, extended, Wₜ, schedule, sumOf, compressOf, words}
 
 -- One round, and the rest.
 pub turn : (k w : ℕ) (ks ws : List ℕ) (v : Variables) {u r : Variables} → u ≡ roundOf v k w → r ≡ rounds ks ws u → r ≡ rounds (k ∷ ks) (w ∷ ws) v
@@ -96,8 +97,8 @@ block h v₁ v₂ v₃ v₄ r x y z u b e p q s e₁ e₂ e₃ e₄ f =
 byte-in : (s : List ℕ) (at j : ℕ) → j < 64 → getD s (at + j) 0 ≡ getD (take 64 (drop at s)) j 0
 byte-in s at j h = sym (getD-take 64 (drop at s) j 0 h ∙ getD-drop at s j 0)
 
-pub word-in : (s : List ℕ) (at j : ℕ) → j + 3 < 64 → wordAt s (at + j) ≡ wordAt (take 64 (drop at s)) j
-unfolding wordAt
+pub word-in : (s : List ℕ) (at j : ℕ) → j + 3 < 64 → u32At s (at + j) ≡ u32At (take 64 (drop at s)) j
+unfolding u32At
 word-in s at j h =
     cc (
       byte-in s at j (omega arith),
@@ -108,7 +109,3 @@ word-in s at j h =
       add-assoc at j 2,
       add-assoc at j 3,
     )
-
--- Two lists, head and tail.
-pub both : {x y : ℕ} {xs ys : List ℕ} → x ≡ y → xs ≡ ys → x ∷ xs ≡ y ∷ ys
-both p q = cc

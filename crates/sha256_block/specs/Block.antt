@@ -1,17 +1,15 @@
 -- FIPS 180-4, sections 5.2.1 and 6.2.2: the hash value after one block.
-use Prim.Native.Nat.{ℕ, zero, suc, _+_, _-_, _*_, _^_}
+use Prim.Native.Nat.{ℕ, zero, suc, _-_}
 use mathlib.Core.List.{List, [], _∷_, _++_}
 use lib.ListN.{length, getD}
+use Rattle.wire.specs.Numbers.{u32At}
 use Rattle.sha256_block.specs.declared.rounds.Variables.{Variables}
 use Rattle.sha256_block.specs.Functions.{_⊞_, Ch, Maj, Σ₀, Σ₁, σ₀, σ₁}
 use Rattle.sha256_block.specs.Constants.{K}
 
--- Section 5.2.1: a block of 64 bytes is sixteen words, each of four bytes with the highest first.
-unfoldable pub wordAt : List ℕ → ℕ → ℕ
-wordAt b at = getD b at 0 * 2 ^ 24 + getD b (at + 1) 0 * 2 ^ 16 + getD b (at + 2) 0 * 2 ^ 8 + getD b (at + 3) 0
-
+-- Section 5.2.1: a block of 64 bytes is sixteen words of four bytes each.
 unfoldable pub words : List ℕ → List ℕ
-words b = wordAt b 0 ∷ wordAt b 4 ∷ wordAt b 8 ∷ wordAt b 12 ∷ wordAt b 16 ∷ wordAt b 20 ∷ wordAt b 24 ∷ wordAt b 28 ∷ wordAt b 32 ∷ wordAt b 36 ∷ wordAt b 40 ∷ wordAt b 44 ∷ wordAt b 48 ∷ wordAt b 52 ∷ wordAt b 56 ∷ wordAt b 60 ∷ []
+words b = u32At b 0 ∷ u32At b 4 ∷ u32At b 8 ∷ u32At b 12 ∷ u32At b 16 ∷ u32At b 20 ∷ u32At b 24 ∷ u32At b 28 ∷ u32At b 32 ∷ u32At b 36 ∷ u32At b 40 ∷ u32At b 44 ∷ u32At b 48 ∷ u32At b 52 ∷ u32At b 56 ∷ u32At b 60 ∷ []
 
 -- Section 6.2.2, step 1: Wₜ = σ₁(Wₜ₋₂) + Wₜ₋₇ + σ₀(Wₜ₋₁₅) + Wₜ₋₁₆.
 unfoldable pub nextWord : ℕ → ℕ → ℕ → ℕ → ℕ

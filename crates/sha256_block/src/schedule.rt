@@ -1,13 +1,14 @@
 // The words of a block and the message schedule (FIPS 180-4, sections 5.2.1 and 6.2.2, step 1).
 ghost use mathlib.Core.Path.{_≡_};
 ghost use mathlib.Core.List.{_++_};
-ghost use Prim.Native.Nat.{_+_, _<_, _≤_};
+ghost use Prim.Native.Nat.{_+_, _≤_};
 ghost use lib.ListN.{length, take, drop};
-ghost use Rattle.sha256_block.specs.Block.{wordAt, words, nextWord, extended};
+ghost use Rattle.sha256_block.specs.Block.{words, nextWord, extended};
 ghost use Rattle.sha256_block.specs.Listed.{listed};
 use crate::functions::add;
 use crate::functions::small_sigma_one;
 use crate::functions::small_sigma_zero;
+use wire::u32_at;
 
 // Sixteen words in a row.
 pub struct Words {
@@ -29,42 +30,28 @@ pub struct Words {
     pub w15: u32,
 }
 
-fn wide(x: u8) -> u32
-    ensures { λ r. ⌜ (r ≡ x) × (r < 256) ⌝ }
-{
-    x as u32
-}
-
-// The word whose four bytes start at byte at of s.
-fn word(s: &[u8], at: usize) -> u32
-    requires { ⌜ at + 4 ≤ length (now s) ⌝ }
-    ensures { λ r. ⌜ r ≡ wordAt (now (s .entry)) at ⌝ }
-{
-    wide(s[at]) * 0x1000000 + wide(s[at + 1]) * 0x10000 + wide(s[at + 2]) * 0x100 + wide(s[at + 3])
-}
-
 // The sixteen words of the block that starts at byte at of s.
 pub fn block_words(s: &[u8], at: usize) -> Words
     requires { ⌜ at + 64 ≤ length (now s) ⌝ }
     ensures { λ r. ⌜ listed r ≡ words (take 64 (drop at (now (s .entry)))) ⌝ }
 {
     Words {
-        w0: word(s, at),
-        w1: word(s, at + 4),
-        w2: word(s, at + 8),
-        w3: word(s, at + 12),
-        w4: word(s, at + 16),
-        w5: word(s, at + 20),
-        w6: word(s, at + 24),
-        w7: word(s, at + 28),
-        w8: word(s, at + 32),
-        w9: word(s, at + 36),
-        w10: word(s, at + 40),
-        w11: word(s, at + 44),
-        w12: word(s, at + 48),
-        w13: word(s, at + 52),
-        w14: word(s, at + 56),
-        w15: word(s, at + 60),
+        w0: u32_at(s, at),
+        w1: u32_at(s, at + 4),
+        w2: u32_at(s, at + 8),
+        w3: u32_at(s, at + 12),
+        w4: u32_at(s, at + 16),
+        w5: u32_at(s, at + 20),
+        w6: u32_at(s, at + 24),
+        w7: u32_at(s, at + 28),
+        w8: u32_at(s, at + 32),
+        w9: u32_at(s, at + 36),
+        w10: u32_at(s, at + 40),
+        w11: u32_at(s, at + 44),
+        w12: u32_at(s, at + 48),
+        w13: u32_at(s, at + 52),
+        w14: u32_at(s, at + 56),
+        w15: u32_at(s, at + 60),
     }
 }
 

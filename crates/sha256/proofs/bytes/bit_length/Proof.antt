@@ -2,8 +2,8 @@
 use mathlib.Core.Path.{refl, sym, _∙_}
 use Prim.Native.Nat.{_*_}
 use borrow.Author.Needs.{needs}
-use Rattle.sha256.specs.Bytes.{bytes}
-use Rattle.sha256_block.proofs.Laws.{both}
+use Rattle.wire.specs.Numbers.{bytes}
+use Rattle.wire.proofs.Laws.{both}
 use Rattle.sha256.proofs.Laws.{halves}
 use Rattle.sha256.proofs.bytes.bit_length.Statement.{statement}
 use Rattle.sha256.proofs.bytes.bit_length.Tie as tie

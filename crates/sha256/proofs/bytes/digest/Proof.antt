@@ -1,8 +1,8 @@
 -- Each byte is the definition's.
 use mathlib.Core.Path.{refl}
-use Rattle.sha256.specs.Bytes.{bytes}
+use Rattle.wire.specs.Numbers.{bytes}
 use Rattle.sha256.specs.Digest.{digestOf}
-use Rattle.sha256_block.proofs.Laws.{both}
+use Rattle.wire.proofs.Laws.{both}
 use Rattle.sha256.proofs.bytes.digest.Statement.{statement}
 use Rattle.sha256.proofs.bytes.digest.Tie as tie
 

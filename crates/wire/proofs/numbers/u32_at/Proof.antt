@@ -1,14 +1,14 @@
 use borrow.Author.Needs.{needs}
-use Rattle.sha256_block.specs.Block.{wordAt}
-use Rattle.sha256_block.proofs.schedule.word.Statement.{statement}
-use Rattle.sha256_block.proofs.schedule.word.Tie as tie
+use Rattle.wire.specs.Numbers.{u32At}
+use Rattle.wire.proofs.numbers.u32_at.Statement.{statement}
+use Rattle.wire.proofs.numbers.u32_at.Tie as tie
 
 returns : tie.Need-returns
-unfolding wordAt
+unfolding u32At
 returns c = cc
 
-pub word-spec : {M : Type 1} → statement M
-word-spec =
+pub u32-at-spec : {M : Type 1} → statement M
+u32-at-spec =
     tie.close
     (tie.spec
     (λ c. search needs)

@@ -1,0 +1,41 @@
+-- Document 01, "Signature check": what `check` answers.
+use Prim.Native.Nat.{ℕ, _+_, _<_}
+use mathlib.Core.Path.{_≡_}
+use mathlib.Core.Bool.{Bool, true, false}
+use mathlib.Core.List.{List}
+use lib.Dec.{leb}
+use lib.ListN.{length}
+use Rattle.wire.specs.Parts.{same}
+use Rattle.lms.specs.declared.Checked.{Checked}
+use Rattle.lms.specs.Layout.{identifier, root, leaf, nonce, path, wellFormed}
+use Rattle.lms.specs.OneTime.{messageHash, leafKey, stepCount}
+use Rattle.lms.specs.Tree.{leafNode, climb}
+
+-- Q of a signature, and the value at the top of the climb from its leaf.
+abbrev pub hashOf : List ℕ → List ℕ → List ℕ → List ℕ
+hashOf key message signature = messageHash (identifier key) (leaf signature) (nonce signature) message
+
+abbrev pub topOf : List ℕ → List ℕ → List ℕ → List ℕ
+topOf key message signature =
+    let I = identifier key in
+    let node = 1024 + leaf signature in
+    climb I node (leafNode I node (leafKey I (leaf signature) (hashOf key message signature) signature)) (path signature) 10
+
+-- A signature whose length is right and whose leaf is one of the tree's.
+pub record Formed (signature : List ℕ) : Type 0 where
+  pub size : length signature ≡ 1452
+  pub inside : leaf signature < 1024
+
+-- Of a well-formed signature: yes exactly when the top is the key's root. All chains are walked in either case.
+unfoldable pub verifiedOf : List ℕ → List ℕ → List ℕ → Checked
+verifiedOf key message signature =
+    record { refusal = 0; verdict = same (topOf key message signature) (root key); steps = stepCount (hashOf key message signature) }
+
+-- By whether the message is short enough, and whether key and signature are well formed.
+abbrev pub answer : Bool → Bool → Checked → Checked
+answer false formed verified = record { refusal = 2; verdict = false; steps = 0 }
+answer true false verified = record { refusal = 0; verdict = false; steps = 0 }
+answer true true verified = verified
+
+unfoldable pub checkOf : List ℕ → List ℕ → List ℕ → Checked
+checkOf key message signature = answer (leb (length message) 1024) (wellFormed key signature) (verifiedOf key message signature)

@@ -1,0 +1,25 @@
+-- RFC 8554, section 5.4.2: from a leaf key to the root of the tree.
+use Prim.Native.Nat.{ℕ, zero, suc, _/_, _%_, _^_}
+use mathlib.Core.Bool.{cond}
+use mathlib.Core.List.{List, [], _++_}
+use lib.Dec.{eqb}
+use lib.ListN.{getD}
+use Rattle.wire.specs.Numbers.{bytes}
+use Rattle.sha256.specs.Digest.{sha256}
+
+-- The leaf with the given node number: H(I, node, 8282, leaf key).
+unfoldable pub leafNode : List ℕ → ℕ → List ℕ → List ℕ
+leafNode I node key = sha256 (I ++ bytes 4 node ++ bytes 2 0x8282 ++ key)
+
+-- A node's value and its sibling's, the left child first: an odd node is the right child.
+abbrev pub children : ℕ → List ℕ → List ℕ → List ℕ
+children node x sibling = cond (eqb (node % 2) 1) (sibling ++ x) (x ++ sibling)
+
+-- The parent p = node / 2: H(I, p, 8383, left child, right child).
+unfoldable pub parentOf : List ℕ → ℕ → List ℕ → List ℕ → List ℕ
+parentOf I node x sibling = sha256 (I ++ bytes 4 (node / 2) ++ bytes 2 0x8383 ++ children node x sibling)
+
+-- The value n levels above a node with value x, with the siblings on the way.
+unfoldable pub climb : List ℕ → ℕ → List ℕ → List (List ℕ) → ℕ → List ℕ
+climb I node x siblings zero = x
+climb I node x siblings (suc n) = parentOf I (node / 2 ^ n) (climb I node x siblings n) (getD siblings n [])

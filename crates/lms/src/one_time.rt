@@ -1,0 +1,117 @@
+// The one-time signature: the hash of the message, its digits, the chains and the leaf key.
+ghost use mathlib.Core.Path.{_≡_};
+ghost use mathlib.Core.List.{List};
+ghost use Prim.Native.Nat.{ℕ, _-_, _≤_, _<_};
+ghost use lib.ListN.{length, take};
+ghost use Rattle.lms.specs.Layout.{string};
+ghost use Rattle.lms.specs.OneTime.{messageHash, digits, stepCount, walk, chainEnd};
+ghost use Rattle.lms.specs.Walked.{chainStart, walkedOf};
+use crate::prefix::begun;
+use sha256::hash_pair;
+use wire::copy_into;
+use wire::digest_at;
+use wire::u32_bytes;
+
+// What `leaf_key` answers.
+pub struct Walked {
+    pub key: [u8; 32],
+    pub steps: u32,
+}
+
+// The hash Q of a message, with the nonce C.
+pub fn message_hash(id: [u8; 16], leaf: u32, nonce: [u8; 32], message: &[u8]) -> [u8; 32]
+    requires { ⌜ length (now message) ≤ 1024 ⌝ }
+    ensures { λ r. ⌜ r ≡ messageHash id leaf nonce (now (message .entry)) ⌝ }
+{
+    begun(id, leaf, 0x81).feed(&nonce).feed(message).finish()
+}
+
+fn wide(x: u8) -> u32
+    ensures { λ r. ⌜ (r ≡ x) × (r < 256) ⌝ }
+{
+    x as u32
+}
+
+// The 34 digits of Q.
+fn digits_of(hash: [u8; 32]) -> [u8; 34]
+    ensures { λ r. ⌜ r ≡ digits hash ⌝ }
+{
+    let mut d = [0u8; 34];
+    let mut sum: u32 = 0;
+    for i in 0..32 {
+        let digit = hash[i];
+        d[i] = digit;
+        sum += 255 - wide(digit);
+    }
+    d[32] = (sum / 256) as u8;
+    d[33] = (sum % 256) as u8;
+    d
+}
+
+// The number of chain steps of Q.
+pub fn step_count(hash: [u8; 32]) -> u32
+    ensures { λ r. ⌜ r ≡ stepCount hash ⌝ }
+{
+    let d = digits_of(hash);
+    let mut steps: u32 = 0;
+    for i in 0..34 {
+        steps += 255 - wide(d[i]);
+    }
+    steps
+}
+
+// The end of a chain: x after the steps from digit on. The first 22 bytes of start are the identifier, the leaf and the chain's number.
+fn chain(start: [u8; 23], digit: u8, x: [u8; 32]) -> [u8; 32]
+    ensures { λ r. ⌜ r ≡ walk (take 22 start) (255 - digit) digit x ⌝ }
+{
+    let mut prefix = start;
+    let mut value = x;
+    for j in digit..255 {
+        prefix[22] = j;
+        value = hash_pair(&prefix, &value);
+    }
+    value
+}
+
+// What each chain's hashes begin with, before the chain's number and the step's.
+fn chain_start(id: [u8; 16], leaf: u32) -> [u8; 23]
+    ensures { λ r. ⌜ r ≡ chainStart id leaf ⌝ }
+{
+    let number = u32_bytes(leaf);
+    let mut start = [0u8; 23];
+    copy_into(&id, &mut start, 0);
+    copy_into(&number, &mut start, 16);
+    start
+}
+
+// The end of chain i of a signature, where start is what `chain_start` gives.
+fn chain_end(start: [u8; 23], i: usize, digit: u8, signature: &[u8]) -> [u8; 32]
+    requires { ⌜ (i < 34) × (1128 ≤ length (now signature)) ⌝ }
+    ensures { λ r. ⌜ ((I : List ℕ) (q : ℕ) → length I ≡ 16 → start ≡ chainStart I q → r ≡ chainEnd I q i digit (string (now (signature .entry)) i)) ⌝ }
+{
+    let mut numbered = start;
+    numbered[21] = i as u8;
+    chain(numbered, digit, digest_at(signature, 40 + 32 * i))
+}
+
+// The leaf key that a signature gives with Q, and the chain steps on the way.
+pub fn leaf_key(id: [u8; 16], leaf: u32, hash: [u8; 32], signature: &[u8]) -> Walked
+    requires { ⌜ 1128 ≤ length (now signature) ⌝ }
+    ensures { λ r. ⌜ r ≡ walkedOf id leaf hash (now (signature .entry)) ⌝ }
+{
+    let d = digits_of(hash);
+    let start = chain_start(id, leaf);
+    let mut state = begun(id, leaf, 0x80);
+    let mut steps: u32 = 0;
+    for i in 0..34 {
+        let digit = d[i];
+        let end = chain_end(start, i, digit, signature);
+        state = state.feed(&end);
+        steps += 255 - wide(digit);
+    }
+    let key = state.finish();
+    Walked {
+        key: key,
+        steps: steps,
+    }
+}

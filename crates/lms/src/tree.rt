@@ -1,0 +1,38 @@
+// From a leaf key to the root of the tree.
+ghost use mathlib.Core.Path.{_≡_};
+ghost use Rattle.lms.specs.Tree.{leafNode, parentOf, climb};
+use crate::prefix::begun;
+
+// The value of the leaf with the given node number.
+pub fn leaf_node(id: [u8; 16], node: u32, key: [u8; 32]) -> [u8; 32]
+    ensures { λ r. ⌜ r ≡ leafNode id node key ⌝ }
+{
+    begun(id, node, 0x82).feed(&key).finish()
+}
+
+// The value of the parent of a node with value child.
+pub fn parent(id: [u8; 16], node: u32, child: [u8; 32], sibling: [u8; 32]) -> [u8; 32]
+    ensures { λ r. ⌜ r ≡ parentOf id node child sibling ⌝ }
+{
+    let state = begun(id, node / 2, 0x83);
+    if node % 2 == 1 {
+        state.feed(&sibling).feed(&child).finish()
+    } else {
+        state.feed(&child).feed(&sibling).finish()
+    }
+}
+
+// The value ten levels above a node with value leaf, with the siblings on the way.
+pub fn climbed(id: [u8; 16], start: u32, leaf: [u8; 32], path: [[u8; 32]; 10]) -> [u8; 32]
+    ensures { λ r. ⌜ r ≡ climb id start leaf path 10 ⌝ }
+{
+    let mut node = start;
+    let mut value = leaf;
+    for i in 0..10 {
+        let sibling = path[i];
+        let above = parent(id, node, value, sibling);
+        value = above;
+        node = node / 2;
+    }
+    value
+}

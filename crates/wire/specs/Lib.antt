@@ -1,0 +1,3 @@
+-- Numbers in bytes, parts of a byte string, and whether two are equal.
+pub mod Numbers
+pub mod Parts
