@@ -1,6 +1,7 @@
 // What a C or a Rust program calls: the static library libfinaruvom.a.
 ghost use mathlib.Core.Path.{_≡_};
 ghost use Rattle.sha256.specs.Answer.{hashAnswer};
+ghost use Rattle.lms.specs.Check.{checkOf};
 
 // The SHA-256 digest of at most 65,536 bytes, written to digest, and 0; of more, zeros and 2.
 #[no_mangle]
@@ -12,4 +13,23 @@ pub extern "C" fn finaruvom_hash(bytes: &[u8], digest: &mut [u8; 32]) -> u8
     let d = hashed.digest;
     *digest = d;
     hashed.refusal
+}
+
+// The signature check: verdict and chain steps are written, and the refusal, or 0, is the result.
+#[no_mangle]
+pub extern "C" fn finaruvom_check(
+    key: &[u8],
+    message: &[u8],
+    signature: &[u8],
+    verdict: &mut bool,
+    steps: &mut u32,
+) -> u8
+    ensures refusal { λ r. ⌜ r ≡ checkOf (now (key .entry)) (now (message .entry)) (now (signature .entry)) .refusal ⌝ }
+    ensures verdict { λ r. ⌜ now (verdict .exit) ≡ checkOf (now (key .entry)) (now (message .entry)) (now (signature .entry)) .verdict ⌝ }
+    ensures steps { λ r. ⌜ now (steps .exit) ≡ checkOf (now (key .entry)) (now (message .entry)) (now (signature .entry)) .steps ⌝ }
+{
+    let checked = lms::check(key, message, signature);
+    *verdict = checked.verdict;
+    *steps = checked.steps;
+    checked.refusal
 }

@@ -1,11 +1,11 @@
 -- Laws of digits, of chains and of what is written into them.
-use Prim.Native.Nat.{ℕ, zero, suc, _+_, _-_, _*_, _/_, _%_, _^_, _≤_, _<_}
+use Prim.Native.Nat.{ℕ, suc, _+_, _-_, _*_, _/_, _%_, _^_, _≤_, _<_}
 use native.Mathlib.Numerals.{add-one}
 use native.Mathlib.Omega.{arith}
 use mathlib.Core.Path.{_≡_, refl, ap, sym, _∙_}
 use mathlib.Core.List.{List, [], _∷_, _++_, append-assoc, append-nil}
 use lib.ListN.{length, take, drop, getD, set, replicate, length-append, length-set}
-use lib.Seq.{paste, set-at, take-at, take-all, take-suc-set, take-length, take-append-add, drop-append-add, length-take-le, take-suc}
+use lib.Seq.{paste, set-at, take-at, take-all, take-suc-set, take-length, drop-append-add, length-take-le, take-suc}
 use Rattle.wire.specs.Numbers.{bytes}
 use Rattle.wire.proofs.Laws.{both}
 use Rattle.sha256.specs.Digest.{digestOf, sha256}

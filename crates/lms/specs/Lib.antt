@@ -5,3 +5,4 @@ pub mod Begun
 pub mod Walked
 pub mod Tree
 pub mod Check
+pub mod Steps

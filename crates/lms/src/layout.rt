@@ -1,9 +1,7 @@
 // What stands where in a key and in a signature.
 ghost use mathlib.Core.Path.{_≡_};
-ghost use mathlib.Core.Bool.{true};
 ghost use lib.ListN.{length};
-ghost use Rattle.lms.specs.Layout.{wellFormed, path, rightTypes, leaf};
-ghost use Prim.Native.Nat.{_<_};
+ghost use Rattle.lms.specs.Layout.{path, rightTypes, wellFormed};
 use wire::digest_at;
 use wire::u32_at;
 

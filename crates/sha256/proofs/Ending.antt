@@ -46,12 +46,12 @@ unfolding bytes
 bytes-length x = refl
 
 -- A message with the two parts of its padding behind it.
-ended : (m q b : List ℕ) (n : ℕ) → n ≡ length m → q ≡ marked (zeros n) → b ≡ bytes 8 (8 * n) → m ++ (q ++ b) ≡ padded m
+pub ended : (m q b : List ℕ) (n : ℕ) → n ≡ length m → q ≡ marked (zeros n) → b ≡ bytes 8 (8 * n) → m ++ (q ++ b) ≡ padded m
 unfolding padded padding
 ended m q b n c eq eb =
     ap (λ (l : List ℕ). m ++ (l ++ b)) eq ∙ ap (λ (l : List ℕ). m ++ (marked (zeros n) ++ l)) eb ∙ ap (λ (i : ℕ). m ++ (marked (zeros i) ++ bytes 8 (8 * i))) c
 
-padded-length : (m : List ℕ) → length (padded m) ≡ length m + (zeros (length m) + 9)
+pub padded-length : (m : List ℕ) → length (padded m) ≡ length m + (zeros (length m) + 9)
 unfolding padded padding
 padded-length m =
     let n : ℕ = length m in

@@ -8,7 +8,7 @@ use lib.Seq.{paste, take-all, length-take-le, take-append-add, drop-append-le, d
 use Rattle.sha256_block.specs.declared.rounds.Variables.{Variables}
 use Rattle.sha256_block.specs.Block.{compressOf}
 use Rattle.sha256.specs.declared.state.Sha256.{Sha256}
-use Rattle.sha256.specs.Digest.{H⁰, hashed, blockOf}
+use Rattle.sha256.specs.Digest.{hashed, blockOf}
 use Rattle.sha256.specs.State.{Taken}
 use Rattle.sha256.proofs.Laws.{front, hashed-front, hashed-step}
 
@@ -94,17 +94,4 @@ long s r m part b i t en le lt z eh eb =
           ∙ take-all (length part - i) (drop i part) (omega arith)
           ∙ sym (drop-append-add m part i)
           ∙ ap (λ (x : ℕ). drop x (m ++ part)) e;
-    }
-
--- A message of less than a block, in a state that holds it whole.
-pub within : (s : Sha256) (m : List ℕ) → length m ≡ s .n → s .n < 64 → s .h ≡ H⁰ → take (s .n) (s .buf) ≡ m → Taken s m
-unfolding hashed
-within s m c small v e =
-    let k : 0 ≡ length m / 64 = omega arith in
-    let z : 0 ≡ 64 * (length m / 64) = omega arith in
-    let n : s .n % 64 ≡ s .n = omega arith in
-    record {
-      count = sym c;
-      value = v ∙ ap (λ (i : ℕ). hashed i m) k;
-      rest = ap (λ (i : ℕ). take i (s .buf)) n ∙ e ∙ ap (λ (i : ℕ). drop i m) z;
     }

@@ -1,9 +1,8 @@
 -- Laws of bytes in a row, of bytes written into a block and of the hash value after some blocks.
 use Prim.Native.Nat.{ℕ, zero, suc, _+_, _*_, _/_, _%_, _^_, _≤_}
 use native.Mathlib.Omega.{arith}
-use native.Mathlib.Nat.{zero-add}
-use mathlib.Core.Path.{_≡_, refl, ap, _∙_, sym}
-use mathlib.Core.List.{List, [], _++_}
+use mathlib.Core.Path.{_≡_, refl, ap, _∙_}
+use mathlib.Core.List.{List, _++_}
 use lib.ListN.{length, take, drop, length-drop, length-take}
 use lib.Seq.{take-length, take-append-le, drop-append-le, take-paste, paste}
 use Rattle.sha256_block.specs.declared.rounds.Variables.{Variables}
@@ -23,12 +22,6 @@ pub front : (b p q : List ℕ) (at : ℕ) → take at b ≡ p → length p ≡ a
 front b p q at e l =
     let h : at ≤ length b = omega (arith, ap length e, length-take at b) in
     take-paste b at q (length q) h (omega arith) ∙ ap (λ (x : List ℕ). x ++ take (length q) q) e ∙ ap (λ (x : List ℕ). p ++ x) (take-length q)
-
--- Two parts, written one behind the other.
-pub pair : (a b x₀ x₁ x₂ : List ℕ) → x₁ ≡ paste x₀ 0 a (length a) → x₂ ≡ paste x₁ (length a) b (length b) → take (length a + length b) x₂ ≡ a ++ b
-pair a b x₀ x₁ x₂ e₁ e₂ =
-    let f : take (length a) x₁ ≡ a = ap (λ (i : ℕ). take i x₁) (sym (zero-add (length a))) ∙ ap (take (0 + length a)) e₁ ∙ front x₀ [] a 0 refl refl in
-    ap (take (length a + length b)) e₂ ∙ front x₁ a b (length a) f refl
 
 -- What follows does not change the hash value after the blocks before.
 pub hashed-front : (k : ℕ) (m x : List ℕ) → 64 * k ≤ length m → hashed k (m ++ x) ≡ hashed k m

@@ -2,4 +2,5 @@
 pub mod Laws
 pub mod Feeding
 pub mod Ending
+pub mod Single
 pub mod Examples

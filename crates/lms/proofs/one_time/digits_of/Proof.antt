@@ -1,7 +1,7 @@
 -- After i turns the first i bytes of the hash are written and summed.
 use Prim.Native.Nat.{_-_, _*_, _≤_}
 use native.Mathlib.Omega.{arith}
-use mathlib.Core.Path.{_≡_, refl, _∙_}
+use mathlib.Core.Path.{_≡_, refl}
 use mathlib.Core.List.{_++_}
 use borrow.Kind.Array.{eInt, good-length}
 use mir.Syntax.{w8}

@@ -1,0 +1,214 @@
+// Reads rows from standard input, each a key, a message and a signature with two bytes of length before each. Prints what the
+// first, of RFC 8554, comes to at each stage, the answer to each row after it, and step counts at the edges of the checksum.
+ghost use mathlib.Core.Path.{_≡_};
+ghost use Prim.Native.Nat.{_+_, _-_, _<_, _≤_};
+ghost use lib.ListN.{length};
+use libc::STDIN_FILENO;
+use libc::STDOUT_FILENO;
+
+// The place of a field's bytes; both 0 where there is no field.
+struct Span {
+    start: usize,
+    end: usize,
+}
+
+// The bytes of m from one place up to another.
+fn part(m: &[u8], from: usize, to: usize) -> &[u8]
+    requires { ⌜ (from ≤ to) × (to ≤ length (now m)) ⌝ }
+    ensures { λ r. ⌜ length (now r) ≡ to - from ⌝ }
+{
+    &m[from..to]
+}
+
+fn wide(x: u8) -> usize
+    ensures { λ r. ⌜ r < 256 ⌝ }
+{
+    x as usize
+}
+
+// The number that two bytes of m are, the higher first.
+fn two_bytes(m: &[u8], at: usize) -> usize
+    requires { ⌜ at + 2 ≤ length (now m) ⌝ }
+    ensures { λ r. ⌜ r < 65536 ⌝ }
+{
+    wide(m[at]) * 256 + wide(m[at + 1])
+}
+
+// Copies all of src to the start of dst.
+fn copy(src: &[u8], dst: &mut [u8])
+    requires { ⌜ length (now src) ≤ length (now dst) ⌝ }
+{
+    let mut i = 0;
+    while i < src.len() {
+        dst[i] = src[i];
+        i += 1;
+    }
+}
+
+// The 16 bytes of a key's identifier.
+fn identifier(key: &[u8]) -> [u8; 16]
+    requires { ⌜ 24 ≤ length (now key) ⌝ }
+{
+    let mut id = [0u8; 16];
+    copy(part(key, 8, 24), &mut id);
+    id
+}
+
+// The 32 bytes at a place of m.
+fn string(m: &[u8], at: usize) -> [u8; 32]
+    requires { ⌜ at + 32 ≤ length (now m) ⌝ }
+{
+    let mut s = [0u8; 32];
+    copy(part(m, at, at + 32), &mut s);
+    s
+}
+
+fn print_string(s: [u8; 32]) {
+    for i in 0..32 {
+        io::print_hex(STDOUT_FILENO, wide(s[i]) as u64, 2);
+    }
+    io::write_all(STDOUT_FILENO, b"\n");
+}
+
+// The root of a tree of height 5, up the path from a leaf.
+fn root(id: [u8; 16], leaf: u32, key: [u8; 32], signature: &[u8]) -> [u8; 32]
+    requires { ⌜ (leaf < 32) × (1292 ≤ length (now signature)) ⌝ }
+{
+    let mut node = 32 + leaf;
+    let mut value = lms::leaf_node(id, node, key);
+    for i in 0..5 {
+        let above = lms::parent(id, node, value, string(signature, 1132 + 32 * i));
+        value = above;
+        node = node / 2;
+    }
+    value
+}
+
+// The leaf key, the steps to it and the root that a signature over a tree of height 5 comes to.
+fn print_stages(key: &[u8], message: &[u8], signature: &[u8]) {
+    if key.len() < 24 {
+        return;
+    }
+    if 1024 < message.len() {
+        return;
+    }
+    if signature.len() < 1292 {
+        return;
+    }
+    let leaf = (two_bytes(signature, 0) * 65536 + two_bytes(signature, 2)) as u32;
+    if 31 < leaf {
+        return;
+    }
+    let id = identifier(key);
+    let hash = lms::message_hash(id, leaf, string(signature, 8), message);
+    let walked = lms::leaf_key(id, leaf, hash, signature);
+    let end = walked.key;
+    let top = root(id, leaf, end, signature);
+    io::write_all(STDOUT_FILENO, b"leaf key ");
+    print_string(end);
+    io::write_all(STDOUT_FILENO, b"steps ");
+    io::print_decimal(STDOUT_FILENO, walked.steps as u64);
+    io::write_all(STDOUT_FILENO, b"\nroot ");
+    print_string(top);
+}
+
+// The refusal, the verdict and the steps of a check.
+fn print_check(key: &[u8], message: &[u8], signature: &[u8]) {
+    let checked = lms::check(key, message, signature);
+    io::print_decimal(STDOUT_FILENO, wide(checked.refusal) as u64);
+    if checked.verdict {
+        io::write_all(STDOUT_FILENO, b" yes ");
+    } else {
+        io::write_all(STDOUT_FILENO, b" no ");
+    }
+    io::print_decimal(STDOUT_FILENO, checked.steps as u64);
+    io::write_all(STDOUT_FILENO, b"\n");
+}
+
+// The field at a place of m.
+fn field(m: &[u8], at: usize) -> Span
+    ensures { λ r. ⌜ (r .start ≤ r .end) × (r .end ≤ length (now (m .entry))) ⌝ }
+{
+    let none = Span { start: 0, end: 0 };
+    let n = m.len();
+    if n < 2 {
+        return none;
+    }
+    if n - 2 < at {
+        return none;
+    }
+    let size = two_bytes(m, at);
+    let start = at + 2;
+    if n - start < size {
+        return none;
+    }
+    Span {
+        start: start,
+        end: start + size,
+    }
+}
+
+// Prints the row at a place of m, and answers where it ends; 0 where there is no whole row.
+fn print_row(m: &[u8], number: u64, at: usize) -> usize {
+    let key = field(m, at);
+    if key.start == 0 {
+        return 0;
+    }
+    let message = field(m, key.end);
+    if message.start == 0 {
+        return 0;
+    }
+    let signature = field(m, message.end);
+    if signature.start == 0 {
+        return 0;
+    }
+    let k = part(m, key.start, key.end);
+    let text = part(m, message.start, message.end);
+    let s = part(m, signature.start, signature.end);
+    if number == 0 {
+        print_stages(k, text, s);
+    } else {
+        io::print_decimal(STDOUT_FILENO, number);
+        io::write_all(STDOUT_FILENO, b" ");
+        print_check(k, text, s);
+    }
+    signature.end
+}
+
+// Prints each row of m, and answers whether m is whole rows to its end.
+fn print_rows(m: &[u8]) -> bool {
+    let mut at = 0;
+    let mut number: u64 = 0;
+    while at < m.len() {
+        let next = print_row(m, number, at);
+        if next <= at {
+            return false;
+        }
+        at = next;
+        number += 1;
+    }
+    true
+}
+
+// The steps of a hash, given by its first byte and the one that each other byte is, after the sum of its bytes.
+fn print_steps(first: u8, other: u8) {
+    let mut hash = [other; 32];
+    hash[0] = first;
+    let sum = wide(first) + 31 * wide(other);
+    io::write_all(STDOUT_FILENO, b"sum ");
+    io::print_decimal(STDOUT_FILENO, sum as u64);
+    io::write_all(STDOUT_FILENO, b" steps ");
+    io::print_decimal(STDOUT_FILENO, lms::step_count(hash) as u64);
+    io::write_all(STDOUT_FILENO, b"\n");
+}
+
+fn main() {
+    let mut input = io::large_buffer();
+    let n = io::read_full(STDIN_FILENO, &mut input);
+    if print_rows(&input[..n]) {
+        print_steps(255, 255);
+        print_steps(0, 0);
+        print_steps(224, 0);
+        print_steps(225, 0);
+    }
+}
