@@ -11,6 +11,7 @@ use sha256::hash_pair;
 use wire::copy_into;
 use wire::digest_at;
 use wire::u32_bytes;
+use wire::wide;
 
 // What `leaf_key` answers.
 pub struct Walked {
@@ -24,12 +25,6 @@ pub fn message_hash(id: [u8; 16], leaf: u32, nonce: [u8; 32], message: &[u8]) ->
     ensures { λ r. ⌜ r ≡ messageHash id leaf nonce (now (message .entry)) ⌝ }
 {
     begun(id, leaf, 0x81).feed(&nonce).feed(message).finish()
-}
-
-fn wide(x: u8) -> u32
-    ensures { λ r. ⌜ (r ≡ x) × (r < 256) ⌝ }
-{
-    x as u32
 }
 
 // The 34 digits of Q.

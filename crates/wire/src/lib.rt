@@ -8,6 +8,7 @@ pub use numbers::second_byte;
 pub use numbers::third_byte;
 pub use numbers::u32_at;
 pub use numbers::u32_bytes;
+pub use numbers::wide;
 pub use parts::copy_into;
 pub use parts::digest_at;
 pub use parts::id_at;

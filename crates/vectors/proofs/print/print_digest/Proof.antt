@@ -2,8 +2,8 @@ use Prim.Native.Nat.{_-_, _≤_}
 use mathlib.Core.Path.{_≡_}
 use borrow.Author.Needs.{needs}
 use lib.ListN.{length}
-use Rattle.sha256_vectors.proofs.print_digest.Statement.{statement}
-use Rattle.sha256_vectors.proofs.print_digest.Tie as tie
+use Rattle.vectors.proofs.print.print_digest.Statement.{statement}
+use Rattle.vectors.proofs.print.print_digest.Tie as tie
 
 abbrev Inv-loop : tie.InvT-loop
 Inv-loop digest i₀ line i = (i ≤ 32) × (1 ≡ length line)
@@ -20,6 +20,7 @@ print-digest-spec =
     (λ c. search needs)
     (λ c. search needs)
     (λ c κs. tt)
+    (λ c. search needs)
     (λ c κs. tt)
     (λ c. search needs)
     (λ c. search needs)

@@ -1,10 +1,15 @@
-// Reads rows from standard input, each a key, a message and a signature with two bytes of length before each. Prints what the
-// first, of RFC 8554, comes to at each stage, the answer to each row after it, and step counts at the edges of the checksum.
-ghost use mathlib.Core.Path.{_≡_};
-ghost use Prim.Native.Nat.{_+_, _-_, _<_, _≤_};
+// The signature check, over rows from standard input: each a key, a message and a signature with two bytes of length before each.
+// The first row is of RFC 8554, over a tree of height 5, and is printed stage by stage.
+ghost use Prim.Native.Nat.{_+_, _<_, _≤_};
 ghost use lib.ListN.{length};
+use crate::print::part;
+use crate::print::print_digest;
 use libc::STDIN_FILENO;
 use libc::STDOUT_FILENO;
+use wire::digest_at;
+use wire::id_at;
+use wire::u32_at;
+use wire::wide;
 
 // The place of a field's bytes; both 0 where there is no field.
 struct Span {
@@ -12,62 +17,12 @@ struct Span {
     end: usize,
 }
 
-// The bytes of m from one place up to another.
-fn part(m: &[u8], from: usize, to: usize) -> &[u8]
-    requires { ⌜ (from ≤ to) × (to ≤ length (now m)) ⌝ }
-    ensures { λ r. ⌜ length (now r) ≡ to - from ⌝ }
-{
-    &m[from..to]
-}
-
-fn wide(x: u8) -> usize
-    ensures { λ r. ⌜ r < 256 ⌝ }
-{
-    x as usize
-}
-
 // The number that two bytes of m are, the higher first.
 fn two_bytes(m: &[u8], at: usize) -> usize
     requires { ⌜ at + 2 ≤ length (now m) ⌝ }
     ensures { λ r. ⌜ r < 65536 ⌝ }
 {
-    wide(m[at]) * 256 + wide(m[at + 1])
-}
-
-// Copies all of src to the start of dst.
-fn copy(src: &[u8], dst: &mut [u8])
-    requires { ⌜ length (now src) ≤ length (now dst) ⌝ }
-{
-    let mut i = 0;
-    while i < src.len() {
-        dst[i] = src[i];
-        i += 1;
-    }
-}
-
-// The 16 bytes of a key's identifier.
-fn identifier(key: &[u8]) -> [u8; 16]
-    requires { ⌜ 24 ≤ length (now key) ⌝ }
-{
-    let mut id = [0u8; 16];
-    copy(part(key, 8, 24), &mut id);
-    id
-}
-
-// The 32 bytes at a place of m.
-fn string(m: &[u8], at: usize) -> [u8; 32]
-    requires { ⌜ at + 32 ≤ length (now m) ⌝ }
-{
-    let mut s = [0u8; 32];
-    copy(part(m, at, at + 32), &mut s);
-    s
-}
-
-fn print_string(s: [u8; 32]) {
-    for i in 0..32 {
-        io::print_hex(STDOUT_FILENO, wide(s[i]) as u64, 2);
-    }
-    io::write_all(STDOUT_FILENO, b"\n");
+    (wide(m[at]) * 256 + wide(m[at + 1])) as usize
 }
 
 // The root of a tree of height 5, up the path from a leaf.
@@ -77,7 +32,7 @@ fn root(id: [u8; 16], leaf: u32, key: [u8; 32], signature: &[u8]) -> [u8; 32]
     let mut node = 32 + leaf;
     let mut value = lms::leaf_node(id, node, key);
     for i in 0..5 {
-        let above = lms::parent(id, node, value, string(signature, 1132 + 32 * i));
+        let above = lms::parent(id, node, value, digest_at(signature, 1132 + 32 * i));
         value = above;
         node = node / 2;
     }
@@ -95,21 +50,21 @@ fn print_stages(key: &[u8], message: &[u8], signature: &[u8]) {
     if signature.len() < 1292 {
         return;
     }
-    let leaf = (two_bytes(signature, 0) * 65536 + two_bytes(signature, 2)) as u32;
+    let leaf = u32_at(signature, 0);
     if 31 < leaf {
         return;
     }
-    let id = identifier(key);
-    let hash = lms::message_hash(id, leaf, string(signature, 8), message);
+    let id = id_at(key, 8);
+    let hash = lms::message_hash(id, leaf, digest_at(signature, 8), message);
     let walked = lms::leaf_key(id, leaf, hash, signature);
     let end = walked.key;
     let top = root(id, leaf, end, signature);
     io::write_all(STDOUT_FILENO, b"leaf key ");
-    print_string(end);
+    print_digest(end);
     io::write_all(STDOUT_FILENO, b"steps ");
     io::print_decimal(STDOUT_FILENO, walked.steps as u64);
     io::write_all(STDOUT_FILENO, b"\nroot ");
-    print_string(top);
+    print_digest(top);
 }
 
 // The refusal, the verdict and the steps of a check.
@@ -202,7 +157,8 @@ fn print_steps(first: u8, other: u8) {
     io::write_all(STDOUT_FILENO, b"\n");
 }
 
-fn main() {
+// Every row, and the steps of hashes at the edges.
+pub fn print_all() {
     let mut input = io::large_buffer();
     let n = io::read_full(STDIN_FILENO, &mut input);
     if print_rows(&input[..n]) {

@@ -2,8 +2,8 @@ use Prim.Native.Nat.{ℕ, _-_, _≤_}
 use native.Mathlib.Omega.{arith}
 use mathlib.Core.Path.{_≡_, sym}
 use lib.ListN.{length, length-set, length-replicate}
-use Rattle.sha256_vectors.proofs.long_message.Statement.{statement}
-use Rattle.sha256_vectors.proofs.long_message.Tie as tie
+use Rattle.vectors.proofs.hash.long_message.Statement.{statement}
+use Rattle.vectors.proofs.hash.long_message.Tie as tie
 
 abbrev Inv-loop : tie.InvT-loop
 Inv-loop m₀ i₀ m i = (i ≤ 65537) × (length m ≡ 65537)

@@ -1,8 +1,8 @@
 use Prim.Native.Nat.{_-_, _≤_}
 use borrow.Author.Needs.{needs}
 use lib.ListN.{length}
-use Rattle.lms_vectors.proofs.print_rows.Statement.{statement}
-use Rattle.lms_vectors.proofs.print_rows.Tie as tie
+use Rattle.vectors.proofs.signature.print_rows.Statement.{statement}
+use Rattle.vectors.proofs.signature.print_rows.Tie as tie
 
 abbrev Inv-loop : tie.InvT-loop
 Inv-loop m at₀ number₀ at number = number ≤ at

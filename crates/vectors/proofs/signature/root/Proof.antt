@@ -1,7 +1,7 @@
 use Prim.Native.Nat.{_-_, _≤_}
 use borrow.Author.Needs.{needs}
-use Rattle.lms_vectors.proofs.root.Statement.{statement}
-use Rattle.lms_vectors.proofs.root.Tie as tie
+use Rattle.vectors.proofs.signature.root.Statement.{statement}
+use Rattle.vectors.proofs.signature.root.Tie as tie
 
 abbrev Inv-loop : tie.InvT-loop
 Inv-loop id leaf signature node₀ value₀ i₀ node value i = i ≤ 5

@@ -1,10 +1,11 @@
-// Prints the SHA-256 digests of published messages and of messages around the edges of blocks and of the limit:
-// by the public hash, by a state fed in parts, and of two parts in one block.
+// SHA-256: by the public hash, by a state fed in parts, and of two parts in one block.
 ghost use mathlib.Core.Path.{_≡_};
-ghost use Prim.Native.Nat.{_-_, _≤_};
 ghost use lib.ListN.{length};
+use crate::print::part;
+use crate::print::print_digest;
 use libc::STDOUT_FILENO;
 use sha256::Sha256;
+use wire::wide;
 
 // Byte i of the long message is 7 * i + 3, modulo 256.
 fn long_message() -> [u8; 65537]
@@ -17,31 +18,12 @@ fn long_message() -> [u8; 65537]
     m
 }
 
-// The bytes of m from one place up to another.
-fn part(m: &[u8], from: usize, to: usize) -> &[u8]
-    requires { ⌜ (from ≤ to) × (to ≤ length (now m)) ⌝ }
-    ensures { λ r. ⌜ length (now r) ≡ to - from ⌝ }
-{
-    &m[from..to]
-}
-
-fn wide(x: u8) -> u64 {
-    x as u64
-}
-
-fn print_digest(digest: [u8; 32]) {
-    for i in 0..32 {
-        io::print_hex(STDOUT_FILENO, wide(digest[i]), 2);
-    }
-    io::write_all(STDOUT_FILENO, b"\n");
-}
-
 // The refusal and the digest.
 fn print_hash(bytes: &[u8]) {
     let answer = sha256::hash(bytes);
     let refusal = answer.refusal;
     let digest = answer.digest;
-    io::print_decimal(STDOUT_FILENO, wide(refusal));
+    io::print_decimal(STDOUT_FILENO, wide(refusal) as u64);
     io::write_all(STDOUT_FILENO, b" ");
     print_digest(digest);
 }
@@ -115,7 +97,8 @@ fn print_edges(m: &[u8]) {
     print_hash(m);
 }
 
-fn main() {
+// The published messages, and then the long one.
+pub fn print_all() {
     print_hash(b"");
     print_hash(b"abc");
     print_hash(b"abcdbcdecdefdefgefghfghighijhijkijkljklmklmnlmnomnopnopq");
