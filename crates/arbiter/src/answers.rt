@@ -1,0 +1,61 @@
+// What the arbiter's calls answer.
+use crate::state::Book;
+use crate::state::Channel;
+use crate::units::Cents;
+use crate::units::Seconds;
+
+// What a command answers: the refusal, or 0; what it paid to each side; the chain steps.
+pub struct Answer {
+    pub refusal: u8,
+    pub customer: Cents,
+    pub merchant: Cents,
+    pub steps: u32,
+}
+
+// What the checks made so far come to.
+pub struct Judged {
+    pub refusal: u8,
+    pub steps: u32,
+}
+
+// What a command makes of its channel, and its answer.
+pub struct Ruled {
+    pub channel: Channel,
+    pub answer: Answer,
+}
+
+// What a command makes of the book, and its answer.
+pub struct Stepped {
+    pub book: Book,
+    pub answer: Answer,
+}
+
+// What an opening makes of the lent book, and the refusal, or 0.
+pub struct Opened {
+    pub book: Book,
+    pub refusal: u8,
+}
+
+// What a reading of one channel gives.
+pub struct Reading {
+    pub refusal: u8,
+    pub status: u8,
+    pub total: Cents,
+    pub held: Cents,
+    pub deadline: Seconds,
+    pub kept: Cents,
+    pub lock: [u8; 32],
+}
+
+// A closing channel and its deadline, if there is some.
+pub struct Soonest {
+    pub some: bool,
+    pub number: u8,
+    pub deadline: Seconds,
+}
+
+// The channel that is due next.
+pub enum Found {
+    At(u8),
+    Nothing,
+}

@@ -1,0 +1,20 @@
+// The channel arbiter: a book of 64 payment channels, and what a command makes of it.
+mod answers;
+mod opening;
+mod state;
+mod units;
+
+pub use answers::Answer;
+pub use answers::Found;
+pub use answers::Judged;
+pub use answers::Opened;
+pub use answers::Reading;
+pub use answers::Ruled;
+pub use answers::Soonest;
+pub use answers::Stepped;
+pub use opening::blank;
+pub use state::Book;
+pub use state::Channel;
+pub use state::Party;
+pub use units::Cents;
+pub use units::Seconds;

@@ -1,0 +1,7 @@
+// Money and time are types of their own: a sum of the two is refused.
+
+// Money, in cents.
+pub struct Cents(pub u64);
+
+// The clock, in seconds from 1970-01-01.
+pub struct Seconds(pub u64);
