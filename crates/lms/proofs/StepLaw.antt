@@ -2,11 +2,16 @@
 use Prim.Native.Nat.{ℕ, zero, suc, _+_, _-_, _*_, _/_, _%_, _^_, _≤_}
 use native.Mathlib.Omega.{arith}
 use mathlib.Core.Path.{_≡_, refl, ap, _∙_}
+use mathlib.Core.Bool.{Bool, true, false}
 use mathlib.Core.List.{List, [], _∷_, _++_}
+use lib.Dec.{leb}
 use lib.ListN.{length, getD, List·getD-append}
 use lib.Seq.{getD-append-add}
 use Rattle.wire.specs.Numbers.{bytes}
-use Rattle.lms.specs.OneTime.{deficit, checksum, digits, stepCount}
+use Rattle.sha256.specs.Digest.{sha256, digestOf}
+use Rattle.lms.specs.OneTime.{deficit, checksum, digits, stepCount, messageHash}
+use Rattle.lms.specs.Layout.{wellFormed}
+use Rattle.lms.specs.Check.{hashOf, verifiedOf, answer, checkOf}
 use Rattle.lms.specs.Steps.{StepLaw}
 
 more : (l : List ℕ) (n : ℕ) → deficit l (suc n) ≡ deficit l n + (255 - getD l n 0)
@@ -44,5 +49,19 @@ law : (Q : List ℕ) → length Q ≡ 32 → stepCount Q ≡ 255 * (checksum Q /
 unfolding stepCount digits bytes
 law Q l = counted Q (checksum Q) l refl
 
+most : (Q : List ℕ) → length Q ≡ 32 → stepCount Q ≤ 8415
+most Q l = omega (arith, law Q l, deficit-most Q 32)
+
+whole-digest : (m : List ℕ) → length (sha256 m) ≡ 32
+unfolding sha256 digestOf bytes
+whole-digest m = refl
+
+check-most : (short formed : Bool) (key message signature : List ℕ) → (answer short formed (verifiedOf key message signature)) .steps ≤ 8415
+unfolding verifiedOf messageHash
+check-most false formed key message signature = omega arith
+check-most true false key message signature = omega arith
+check-most true true key message signature = most (hashOf key message signature) (whole-digest _)
+
 pub stepLaw : StepLaw
-stepLaw = record { law = law; most = λ Q l. omega (arith, law Q l, deficit-most Q 32) }
+unfolding checkOf
+stepLaw = record { law = law; most = most; check = λ key message signature. check-most (leb (length message) 1024) (wellFormed key signature) key message signature }

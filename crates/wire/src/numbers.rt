@@ -2,7 +2,7 @@
 ghost use mathlib.Core.Path.{_≡_};
 ghost use Prim.Native.Nat.{_+_, _/_, _%_, _^_, _<_, _≤_};
 ghost use lib.ListN.{length};
-ghost use Rattle.wire.specs.Numbers.{bytes, u32At};
+ghost use Rattle.wire.specs.Numbers.{bytes, u16At, u32At, u64At};
 
 // A byte as a wider number.
 pub fn wide(x: u8) -> u32
@@ -11,12 +11,28 @@ pub fn wide(x: u8) -> u32
     x as u32
 }
 
+// The number in the two bytes of s from place at on.
+pub fn u16_at(s: &[u8], at: usize) -> u32
+    requires { ⌜ at + 2 ≤ length (now s) ⌝ }
+    ensures { λ r. ⌜ r ≡ u16At (now (s .entry)) at ⌝ }
+{
+    wide(s[at]) * 0x100 + wide(s[at + 1])
+}
+
 // The number in the four bytes of s from place at on.
 pub fn u32_at(s: &[u8], at: usize) -> u32
     requires { ⌜ at + 4 ≤ length (now s) ⌝ }
     ensures { λ r. ⌜ r ≡ u32At (now (s .entry)) at ⌝ }
 {
     wide(s[at]) * 0x1000000 + wide(s[at + 1]) * 0x10000 + wide(s[at + 2]) * 0x100 + wide(s[at + 3])
+}
+
+// The number in the eight bytes of s from place at on.
+pub fn u64_at(s: &[u8], at: usize) -> u64
+    requires { ⌜ at + 8 ≤ length (now s) ⌝ }
+    ensures { λ r. ⌜ r ≡ u64At (now (s .entry)) at ⌝ }
+{
+    u32_at(s, at) as u64 * 0x100000000 + u32_at(s, at + 4) as u64
 }
 
 // The highest of the four bytes of x.

@@ -37,13 +37,40 @@ pub fn id_at(s: &[u8], at: usize) -> [u8; 16]
     id
 }
 
+// The 56 bytes of s from place at on: a key.
+pub fn key_at(s: &[u8], at: usize) -> [u8; 56]
+    requires { ⌜ at + 56 ≤ length (now s) ⌝ }
+    ensures { λ r. ⌜ r ≡ part (now (s .entry)) at 56 ⌝ }
+{
+    let mut key = [0u8; 56];
+    copy_into(&s[at..at + 56], &mut key, 0);
+    key
+}
+
+// Whether two byte strings of one length are equal.
+fn same_bytes(a: &[u8], b: &[u8]) -> bool
+    requires { ⌜ length (now a) ≡ length (now b) ⌝ }
+    ensures { λ r. ⌜ r ≡ same (now (a .entry)) (now (b .entry)) ⌝ }
+{
+    let mut ok = true;
+    let mut i = 0;
+    while i < a.len() {
+        ok = ok & (a[i] == b[i]);
+        i += 1;
+    }
+    ok
+}
+
 // Whether two digests are equal.
 pub fn same_digest(a: [u8; 32], b: [u8; 32]) -> bool
     ensures { λ r. ⌜ r ≡ same a b ⌝ }
 {
-    let mut ok = true;
-    for i in 0..32 {
-        ok = ok & (a[i] == b[i]);
-    }
-    ok
+    same_bytes(&a, &b)
+}
+
+// Whether two keys are equal.
+pub fn same_key(a: [u8; 56], b: [u8; 56]) -> bool
+    ensures { λ r. ⌜ r ≡ same a b ⌝ }
+{
+    same_bytes(&a, &b)
 }

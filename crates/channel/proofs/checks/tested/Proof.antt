@@ -1,0 +1,16 @@
+use mathlib.Core.Path.{refl}
+use Rattle.channel.proofs.Asking.{ask-stop, ask-made}
+use Rattle.channel.proofs.checks.tested.Statement.{statement}
+use Rattle.channel.proofs.checks.tested.Tie as tie
+
+returns : tie.Need-returns
+returns c = (ask-stop _ _ (c .if1 .taken), refl)
+
+returns-2 : tie.Need-returns-2
+returns-2 c = (ask-made _ _ _ (c .before .if1 .left) (rw (c .if2 .taken)), refl)
+
+returns-3 : tie.Need-returns-3
+returns-3 c = (ask-made _ _ _ (c .before .if1 .left) (rw (c .if2 .left)), refl)
+
+pub tested-spec : {M : Type 1} → statement M
+tested-spec = tie.close (tie.spec returns returns-2 returns-3)

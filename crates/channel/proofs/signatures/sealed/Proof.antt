@@ -1,0 +1,63 @@
+use Prim.Native.Nat.{_+_}
+use mathlib.Core.Path.{_≡_, sym, _∙_}
+use native.Mathlib.Omega.{arith}
+use native.Mathlib.Nat.{add-sub-cancel-left}
+use lib.ListN.{length}
+use lib.Seq.{length-take-le}
+use Rattle.machine.specs.Machine.{verdict}
+use Rattle.channel.proofs.Asking.{ask-stop, ask-good, ask-bad, steps-most}
+use borrow.Author.Needs.{needs}
+use Rattle.channel.proofs.signatures.sealed.Statement.{statement}
+use Rattle.channel.proofs.signatures.sealed.Tie as tie
+
+returns : tie.Need-returns
+returns c = (ask-stop _ _ (c .if1 .taken), omega arith)
+
+slice-aggregate-check-2 : tie.Need-slice-aggregate-check-2
+slice-aggregate-check-2 c =
+    let c₂ = c .before .before in
+    let c₆ = c₂ .before .before .before .before in
+    let h : length (c₂ .signed-message .result) ≡ 67 = search needs in
+    sym (length-take-le (c₆ .args .end + 16) (c₂ .signed-message .result) (omega arith))
+
+add-steps : tie.Need-add-steps
+add-steps c = omega (arith, steps-most _ _ _ _ (c .before .before .check .ensures))
+
+returns-2 : tie.Need-returns-2
+unfolding verdict
+returns-2 c =
+    let c₃ = c .before .before .before in
+    let c₇ = c₃ .before .before .before .before in
+    let c₈ = c₇ .before in
+    let v = c₃ .check in
+    let e = rw (c₇ .signed-message .ensures, add-sub-cancel-left) at v .ensures in
+    (ask-good _ _ _ _ e _ _ (c₈ .if1 .left) (c .if2 .taken), omega (arith, steps-most _ _ _ _ e))
+
+returns-3 : tie.Need-returns-3
+unfolding verdict
+returns-3 c =
+    let c₃ = c .before .before .before in
+    let c₇ = c₃ .before .before .before .before in
+    let c₈ = c₇ .before in
+    let v = c₃ .check in
+    let e = rw (c₇ .signed-message .ensures, add-sub-cancel-left) at v .ensures in
+    (ask-bad _ _ _ _ e _ _ (c₈ .if1 .left) (c .if2 .left), omega (arith, steps-most _ _ _ _ e))
+
+pub sealed-spec : {M : Type 1} → statement M
+sealed-spec =
+    tie.close
+    (tie.spec
+    returns
+    (λ c κs. search needs)
+    (λ c. search needs)
+    (λ c. search needs)
+    (λ c. search needs)
+    slice-aggregate-check-2
+    (λ c. search needs)
+    (λ c. search needs)
+    (λ c. search needs)
+    (λ c. search needs)
+    (λ c κs. search needs)
+    add-steps
+    returns-2
+    returns-3)

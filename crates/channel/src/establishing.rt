@@ -1,0 +1,69 @@
+// 02: a channel's two sides, their keys and agreed deposits, and its delay.
+use crate::checks::ruled;
+use crate::checks::tested;
+use crate::checks::unjudged;
+use crate::sums::total_fits;
+use machine::Cents;
+use machine::Channel;
+use machine::Party;
+use machine::Ruled;
+use wire::key_at;
+use wire::same_key;
+use wire::u32_at;
+use wire::u64_at;
+ghost use mathlib.Core.Path.{_≡_};
+ghost use lib.ListN.{length};
+ghost use Rattle.machine.specs.Format.{delay};
+ghost use Rattle.machine.specs.Rules.{keyed, delayed, establish};
+ghost use Rattle.machine.specs.Machine.{customerOf, merchantOf, ruling};
+
+// Both keys carry types 6 and 4, and they differ.
+fn keys_fit(customer: [u8; 56], merchant: [u8; 56]) -> bool
+    ensures { λ r. ⌜ r ≡ keyed customer merchant ⌝ }
+{
+    (u32_at(&customer, 0) == 6)
+        & (u32_at(&customer, 4) == 4)
+        & ((u32_at(&merchant, 0) == 6) & (u32_at(&merchant, 4) == 4))
+        & !same_key(customer, merchant)
+}
+
+// A delay of 0 stands for a day.
+fn delay_or_day(delay: u32) -> u32
+    ensures { λ r. ⌜ r ≡ delayed delay ⌝ }
+{
+    if delay == 0 { 86400 } else { delay }
+}
+
+fn establish(ch: Channel, customer: Party, merchant: Party, delay: u32) -> Ruled
+    ensures { λ r. ⌜ r ≡ ruling ch (establish customer merchant delay ch) ⌝ }
+{
+    let customer_key = customer.key;
+    let merchant_key = merchant.key;
+    let fits = total_fits(customer.deposit, merchant.deposit);
+    let j = tested(unjudged(), 5, ch.status == 0);
+    let j = tested(j, 6, keys_fit(customer_key, merchant_key));
+    let j = tested(j, 7, (delay == 0) | ((3600 <= delay) & (delay <= 2592000)));
+    let j = tested(j, 8, (1 <= customer.deposit.0) & fits);
+    let mut after = ch;
+    after.status = 1;
+    after.customer = customer;
+    after.merchant = merchant;
+    after.delay = delay_or_day(delay);
+    ruled(j, ch, after, Cents(0), Cents(0))
+}
+
+// The rule at the operands of a command.
+pub fn establish_from(ch: Channel, command: &[u8]) -> Ruled
+    requires { ⌜ length (now command) ≡ 135 ⌝ }
+    ensures { λ r. ⌜ r ≡ ruling ch (establish (customerOf (now (command .entry))) (merchantOf (now (command .entry))) (delay (now (command .entry))) ch) ⌝ }
+{
+    let customer = Party {
+        key: key_at(command, 3),
+        deposit: Cents(u64_at(command, 115)),
+    };
+    let merchant = Party {
+        key: key_at(command, 59),
+        deposit: Cents(u64_at(command, 123)),
+    };
+    establish(ch, customer, merchant, u32_at(command, 131))
+}

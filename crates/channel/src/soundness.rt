@@ -1,0 +1,15 @@
+// What a sound book asks of a channel.
+use crate::sums::part_fits;
+use crate::sums::total_fits;
+use machine::Channel;
+ghost use mathlib.Core.Path.{_≡_};
+ghost use Rattle.machine.specs.Book.{soundChannel};
+
+pub fn sound_channel(ch: Channel) -> bool
+    ensures { λ r. ⌜ r ≡ soundChannel ch ⌝ }
+{
+    let fits = total_fits(ch.customer.deposit, ch.merchant.deposit);
+    let kept = part_fits(ch.kept, ch.customer.deposit, ch.merchant.deposit);
+    let delay = (3600 <= ch.delay) & (ch.delay <= 2592000);
+    (ch.status <= 6) & ((ch.status == 0) | (fits & delay & ((ch.status != 5) | kept)))
+}

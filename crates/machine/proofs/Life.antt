@@ -1,0 +1,102 @@
+-- The life of one channel, the invariant of the third demand: what its strings say of its record, by status.
+use mathlib.Core.Path.{_≡_}
+use mathlib.Core.Bool.{Bool, true, false, not, _&&_, _||_}
+use mathlib.Core.List.{List, [], _∷_}
+use Prim.Native.Nat.{ℕ, _+_, _≤_, _<_}
+use lib.ListN.{getD}
+use Rattle.machine.specs.Format.{customerDeposit, merchantDeposit, delay, customerPart, merchantPart, lock, merchantKey}
+use Rattle.machine.specs.Book.{limit, agreed}
+use Rattle.machine.specs.Rules.{delayed}
+use Rattle.machine.specs.Ledger.{Event, deposits, member, has, eventOf, closed, closings, paid, allMerchant, split}
+use Rattle.machine.specs.declared.state.Channel.{Channel}
+
+-- ---- opcodes that have not come
+
+abbrev pub Lacks : List ℕ → List Event → Type 0
+Lacks ks l = (k : ℕ) → member k ks ≡ true → has k l ≡ false
+
+-- What has not come in status 5; in 4 nor a 07, in 3 nor an 08, in 2 nor a 04, in 1 nor a 03.
+abbrev pub unclosed : List ℕ
+unclosed = 5 ∷ 6 ∷ 9 ∷ 10 ∷ []
+
+abbrev pub unanswered : List ℕ
+unanswered = 7 ∷ unclosed
+
+abbrev pub running : List ℕ
+running = 8 ∷ unanswered
+
+abbrev pub unmatched : List ℕ
+unmatched = 4 ∷ running
+
+abbrev pub unfunded : List ℕ
+unfunded = 3 ∷ unmatched
+
+-- ---- what the strings say of the record
+
+-- It has the terms of the accepted 02, and they are in range.
+pub record Terms (made : Bool) (s : List ℕ) (first second wait : ℕ) (key : List ℕ) : Type 0 where
+  pub there : made ≡ true
+  pub customer : first ≡ customerDeposit s
+  pub merchant : second ≡ merchantDeposit s
+  pub delays : wait ≡ delayed (delay s)
+  pub signer : key ≡ merchantKey s
+  pub fits : first + second ≤ limit
+  pub least : 3600 ≤ wait
+  pub most : wait ≤ 2592000
+
+abbrev pub TermsOf : List Event → Channel → Type 0
+TermsOf l c = Terms (has 2 l) ((eventOf 2 l) .string) (c .customer .deposit .0) (c .merchant .deposit .0) (c .delay) (c .merchant .key)
+
+-- What came in, and what was paid to each side.
+pub record Money (l : List Event) (in′ customer merchant : ℕ) : Type 0 where
+  pub deposited : deposits l ≡ in′
+  pub toCustomer : (paid l) .customer ≡ customer
+  pub toMerchant : (paid l) .merchant ≡ merchant
+
+-- It keeps what the accepted 07 says.
+pub record Closing (e : Event) (kept total deadline wait : ℕ) (locked : List ℕ) : Type 0 where
+  pub part : kept ≡ customerPart 7 (e .string)
+  pub whole : kept + merchantPart 7 (e .string) ≡ total
+  pub lock′ : locked ≡ lock (e .string)
+  pub due : deadline ≡ e .clock + wait
+
+abbrev pub ClosingOf : List Event → Channel → Type 0
+ClosingOf l c = Closing (eventOf 7 l) (c .kept .0) (agreed c) (c .deadline .0) (c .delay) (c .lock)
+
+-- In status 1, 2 and 3, and in 4 with its 08: the terms hold, deposits came in, nothing is paid.
+pub record Live (lacking : List ℕ) (in′ : ℕ) (l : List Event) (c : Channel) : Type 0 where
+  pub terms : TermsOf l c
+  pub lacks : Lacks lacking l
+  pub money : Money l in′ 0 0
+
+-- In status 4: the merchant is closing.
+pub record Waiting (l : List Event) (c : Channel) : Type 0 where
+  pub live : Live unanswered (agreed c) l c
+  pub begun : has 8 l ≡ true
+
+-- In status 5: the customer is closing, b is paid and c is kept.
+pub record Leaving (l : List Event) (c : Channel) : Type 0 where
+  pub terms : TermsOf l c
+  pub lacks : Lacks unclosed l
+  pub begun : has 7 l ≡ true
+  pub closing : ClosingOf l c
+  pub money : Money l (agreed c) 0 (merchantPart 7 ((eventOf 7 l) .string))
+
+-- In status 6: the deposits are paid out by the split of the way of closing.
+pub record Over (l : List Event) (c : Channel) : Type 0 where
+  pub terms : TermsOf l c
+  pub ended : closed l ≡ true
+  pub single : closings l < 2
+  pub left : (has 7 l && not (has 9 l || has 10 l)) ≡ false
+  pub even : deposits l ≡ (paid l) .customer + (paid l) .merchant
+  pub splits : paid l ≡ split l
+  pub disputed : has 9 l ≡ true → paid l ≡ allMerchant l
+  pub either : (has 6 l && has 7 l) ≡ false
+
+-- The invariant by status, 0 to 6.
+abbrev pub StageAt : List Event → Channel → ℕ → Type 0
+StageAt l c status =
+    getD ((l ≡ []) ∷ Live unfunded 0 l c ∷ Live unmatched (c .customer .deposit .0) l c ∷ Live running (agreed c) l c ∷ Waiting l c ∷ Leaving l c ∷ Over l c ∷ []) status ⊥
+
+abbrev pub Stage : List Event → Channel → Type 0
+Stage l c = StageAt l c (c .status)

@@ -1,0 +1,336 @@
+-- An accepted command leads a channel from its stage to the next, and its opcode had not come before.
+use mathlib.Core.Path.{_≡_, refl, ap, sym, subst, _∙_}
+use mathlib.Core.Bool.{Bool, true, false, cond, _&&_, _||_}
+use mathlib.Core.List.{List, [], _∷_}
+use Prim.Native.Nat.{ℕ, zero, suc, _+_, _≤_, _<_}
+use native.Mathlib.Omega.{arith}
+use lib.Dec.{eqb, leb}
+use borrow.Author.Tests.{eqb-true, leb-true, ne-eqb}
+use Rattle.machine.specs.Checks.{Verdict}
+use Rattle.machine.specs.Format.{opcode, amount, customerDeposit, delay, customerPart, merchantPart, lock}
+use Rattle.machine.specs.Book.{agreed, total, held}
+use Rattle.machine.specs.Rules.{Plan, moved, become, delayed, establish, fundCustomer, fundMerchant, reclaim, mutualClose, customerClose, merchantClose, dispute, settle}
+use Rattle.machine.specs.Machine.{customerOf, merchantOf, plan}
+use Rattle.machine.specs.Ledger.{Event, deposits, sum, opcodes, member, tally, has, count, eventOf, closings, agreedCustomer, agreedTotal, paid, allMerchant, split}
+use Rattle.machine.specs.declared.state.Channel.{Channel}
+use Rattle.machine.specs.declared.answers.Answer.{Answer}
+use Rattle.machine.proofs.Laws.{clash, and-both, or-neither, or-other, or-right}
+use Rattle.machine.proofs.Judging.{Passed}
+use Rattle.machine.proofs.Life.{Lacks, unclosed, unanswered, running, unmatched, unfunded, TermsOf, Live, Waiting, Leaving, Over, StageAt, Stage}
+
+-- ---- laws
+
+-- What is lacking stays lacking where one is dropped from the list.
+pub fewer : (k : ℕ) (ks : List ℕ) (l : List Event) → Lacks (k ∷ ks) l → Lacks ks l
+unfolding member
+fewer k ks l h i m = h i (or-right (eqb k i) (member i ks) m)
+
+pub lacks-none : (ks : List ℕ) → Lacks ks []
+unfolding opcodes member
+lacks-none ks k m = refl
+
+paid-split : (l : List Event) (x y : ℕ) → split l ≡ record { customer = x; merchant = y } → (paid l) .customer ≡ x → (paid l) .merchant ≡ y → paid l ≡ split l
+paid-split l x y p q r = ap (λ (i : ℕ). record { customer = i; merchant = (paid l) .merchant }) q ∙ ap (λ (i : ℕ). record { customer = x; merchant = i }) r ∙ sym p
+
+pub tally-none : (i : ℕ) (o : List ℕ) → member i o ≡ false → tally i o ≡ 0
+unfolding member tally
+tally-none i [] m = refl
+tally-none i (x ∷ o) m =
+    let p = or-neither (eqb x i) (member i o) m in
+    rw (p .0) (omega (arith, tally-none i o (p .1)))
+
+pub total-at : (c : Channel) (n : ℕ) → c .status ≡ suc n → total c ≡ agreed c
+unfolding total
+total-at c n e = rw (ne-eqb (c .status) 0 (λ z. omega arith))
+
+pub held-at : (c : Channel) (n x : ℕ) → c .status ≡ n → cond (eqb n 2) (c .customer .deposit .0) (cond (eqb n 3 || eqb n 4) (total c) (cond (eqb n 5) (c .kept .0) 0)) ≡ x → held c ≡ x
+unfolding held
+held-at c n x e h = subst (λ (i : ℕ). cond (eqb i 2) (c .customer .deposit .0) (cond (eqb i 3 || eqb i 4) (total c) (cond (eqb i 5) (c .kept .0) 0)) ≡ x) (sym e) h
+
+-- Check 7 is on the operand; 0 stands for a day.
+delayed-fits : (d : ℕ) → (eqb d 0 || (leb 3600 d && leb d 2592000)) ≡ true → (3600 ≤ delayed d) × (delayed d ≤ 2592000)
+unfolding delayed
+delayed-fits d = go (eqb d 0)
+  where
+    go : (x : Bool) → (x || (leb 3600 d && leb d 2592000)) ≡ true → (3600 ≤ cond x 86400 d) × (cond x 86400 d ≤ 2592000)
+    go true h = (omega arith, omega arith)
+    go false h = let p = and-both (leb 3600 d) (leb d 2592000) h in (leb-true _ _ (p .0), leb-true _ _ (p .1))
+
+-- ---- one more string
+
+module _ (l : List Event) (s : List ℕ) (a : Answer) (k : ℕ) where
+  abbrev pub next : Event
+  next = record { string = s; answer = a; clock = k }
+
+  event-skip : (i : ℕ) → eqb (opcode s) i ≡ false → eventOf i (next ∷ l) ≡ eventOf i l
+  unfolding eventOf
+  event-skip i o = rw o
+
+  event-next : (i : ℕ) → eqb (opcode s) i ≡ true → eventOf i (next ∷ l) ≡ next
+  unfolding eventOf
+  event-next i o = rw o
+
+  no-funds : (eqb (opcode s) 3 || eqb (opcode s) 4) ≡ false → deposits (next ∷ l) ≡ deposits l
+  unfolding sum
+  no-funds o = rw o (omega arith)
+
+  a-funds : (eqb (opcode s) 3 || eqb (opcode s) 4) ≡ true → deposits (next ∷ l) ≡ amount s + deposits l
+  unfolding sum
+  a-funds o = rw o
+
+  pays-customer : (paid (next ∷ l)) .customer ≡ a .customer .0 + (paid l) .customer
+  unfolding sum
+  pays-customer = refl
+
+  pays-merchant : (paid (next ∷ l)) .merchant ≡ a .merchant .0 + (paid l) .merchant
+  unfolding sum
+  pays-merchant = refl
+
+  lacks-on : (ks : List ℕ) → member (opcode s) ks ≡ false → Lacks ks l → Lacks ks (next ∷ l)
+  unfolding opcodes member
+  lacks-on ks m h i n = go (eqb (opcode s) i) refl
+    where
+      go : (x : Bool) → eqb (opcode s) i ≡ x → (x || has i l) ≡ false
+      go true z = absurd (clash n (subst (λ j. member j ks ≡ false) (eqb-true (opcode s) i z) m))
+      go false z = h i n
+
+  single-on : Lacks unclosed l → cond (eqb (opcode s) 5) 1 0 + cond (eqb (opcode s) 6) 1 0 + cond (eqb (opcode s) 9) 1 0 + cond (eqb (opcode s) 10) 1 0 < 2 → closings (next ∷ l) < 2
+  unfolding opcodes tally member
+  single-on w h = omega (arith, tally-none 5 (opcodes l) (w 5 refl), tally-none 6 (opcodes l) (w 6 refl), tally-none 9 (opcodes l) (w 9 refl), tally-none 10 (opcodes l) (w 10 refl))
+
+  undisputed : eqb (opcode s) 9 ≡ false → has 9 l ≡ false → has 9 (next ∷ l) ≡ true → paid (next ∷ l) ≡ allMerchant (next ∷ l)
+  unfolding opcodes member
+  undisputed o m h = let z : has 9 (next ∷ l) ≡ false = rw (o, m) in absurd (clash h z)
+
+  module _ (c : Channel) where
+    terms-on : eqb (opcode s) 2 ≡ false → TermsOf l c → TermsOf (next ∷ l) c
+    unfolding opcodes member
+    terms-on o t = rw (event-skip 2 o, o) t
+
+    abbrev pub Leads : ℕ → Plan → Type 0
+    Leads op p =
+        opcode s ≡ op → Passed (p .checks) → a .customer .0 ≡ p .pays .customer .0 → a .merchant .0 ≡ p .pays .merchant .0 → Stage l c → Stage (next ∷ l) (p .channel) × (has op l ≡ false)
+
+    -- The stage at a status that check 5 found.
+    found : (n : ℕ) → eqb (c .status) n ≡ true → Stage l c → StageAt l c n
+    found n q g = subst (StageAt l c) (eqb-true (c .status) n q) g
+
+    establishes : Leads 2 (establish (customerOf s) (merchantOf s) (delay s) c)
+    unfolding establish opcodes member sum
+    establishes o p pc pm g =
+        let e : l ≡ [] = found 0 (p .0) g in
+        let d = delayed-fits (delay s) (p .1 .1 .0) in
+        let f = and-both (leb 1 (customerDeposit s)) _ (p .1 .1 .1 .0) in (
+          record {
+            terms = rw (event-next 2 (rw o)) (record { there = rw o; customer = refl; merchant = refl; delays = refl; signer = refl; fits = leb-true _ _ (f .1); least = d .0; most = d .1 });
+            lacks = lacks-on unfunded (rw o) (rw e (lacks-none unfunded));
+            money = omega (arith, no-funds (rw o), pays-customer, pays-merchant, ap deposits e, ap (λ x. (paid x) .customer) e, ap (λ x. (paid x) .merchant) e);
+          },
+          rw e,
+        )
+
+    fundsCustomer : Leads 3 (fundCustomer (amount s) c)
+    unfolding fundCustomer member
+    fundsCustomer o p pc pm g =
+        let g′ : Live unfunded 0 l c = found 1 (p .0) g in
+        let f = eqb-true (amount s) (c .customer .deposit .0) (p .1 .0) in
+        let more = fewer 3 unmatched l (g′ .lacks) in
+        let go : (b : Bool) → eqb (c .merchant .deposit .0) 0 ≡ b → Stage (next ∷ l) (become (cond b 3 2) c) = elim [
+          | true ↦ λ z. record { terms = terms-on (rw o) (g′ .terms); lacks = lacks-on running (rw o) (fewer 4 running l more); money = omega (arith, a-funds (rw o), pays-customer, pays-merchant, eqb-true) }
+          | false ↦ λ z. record { terms = terms-on (rw o) (g′ .terms); lacks = lacks-on unmatched (rw o) more; money = omega (arith, a-funds (rw o), pays-customer, pays-merchant) }
+        ] in
+        (go (eqb (c .merchant .deposit .0) 0) refl, g′ .lacks 3 refl)
+
+    fundsMerchant : Leads 4 (fundMerchant (amount s) c)
+    unfolding fundMerchant member
+    fundsMerchant o p pc pm g =
+        let g′ : Live unmatched (c .customer .deposit .0) l c = found 2 (p .0) g in
+        let f = eqb-true (amount s) (c .merchant .deposit .0) (p .1 .0) in (
+          record {
+            terms = terms-on (rw o) (g′ .terms);
+            lacks = lacks-on running (rw o) (fewer 4 running l (g′ .lacks));
+            money = omega (arith, a-funds (rw o), pays-customer, pays-merchant);
+          },
+          g′ .lacks 4 refl,
+        )
+
+    reclaims : (v : Verdict) → Leads 5 (reclaim v c)
+    unfolding reclaim opcodes member
+    reclaims v o p pc pm g =
+        let g′ : Live unmatched (c .customer .deposit .0) l c = found 2 (p .0) g in
+        let t = terms-on (rw o) (g′ .terms) in (
+          record {
+            terms = t;
+            single = single-on (fewer 7 unclosed l (fewer 8 unanswered l (fewer 4 running l (g′ .lacks)))) (rw o (omega arith));
+            ended = rw o;
+            left = rw (o, g′ .lacks 7 refl);
+            even = omega (arith, no-funds (rw o), pays-customer, pays-merchant);
+            splits = paid-split (next ∷ l) (agreedCustomer (next ∷ l)) 0 (rw o) (omega (arith, pays-customer, t)) (omega (arith, pays-merchant));
+            disputed = undisputed (rw o) (g′ .lacks 9 refl);
+            either = rw (o, g′ .lacks 6 refl);
+          },
+          g′ .lacks 5 refl,
+        )
+
+    agrees : (v w : Verdict) → Leads 6 (mutualClose (customerPart 6 s) (merchantPart 6 s) v w c)
+    unfolding mutualClose opcodes member
+    agrees v w o p pc pm g =
+        let g′ : Live running (agreed c) l c = found 3 (p .0) g in
+        let f = eqb-true (customerPart 6 s + merchantPart 6 s) (total c) (p .1 .0) in
+        let q = total-at c 2 (eqb-true (c .status) 3 (p .0)) in
+        let n = event-next 6 (rw o) in (
+          record {
+            terms = terms-on (rw o) (g′ .terms);
+            single = single-on (fewer 7 unclosed l (fewer 8 unanswered l (g′ .lacks))) (rw o (omega arith));
+            ended = rw (o, g′ .lacks 5 refl);
+            left = rw (o, g′ .lacks 7 refl);
+            even = omega (arith, no-funds (rw o), pays-customer, pays-merchant);
+            splits = paid-split (next ∷ l) (customerPart 6 ((eventOf 6 (next ∷ l)) .string)) (merchantPart 6 ((eventOf 6 (next ∷ l)) .string)) (rw (o, g′ .lacks 5 refl)) (rw n (omega (arith, pays-customer))) (rw n (omega (arith, pays-merchant)));
+            disputed = undisputed (rw o) (g′ .lacks 9 refl);
+            either = rw (o, g′ .lacks 7 refl);
+          },
+          g′ .lacks 6 refl,
+        )
+
+    leaves : (now : ℕ) (v w : Verdict) → k ≡ now → Leads 7 (customerClose now (lock s) (customerPart 7 s) (merchantPart 7 s) v w c)
+    unfolding customerClose opcodes member
+    leaves now v w e o p pc pm g = go (eqb (c .status) 3) refl
+      where
+        close : Live unanswered (agreed c) l c → total c ≡ agreed c → Leaving (next ∷ l) (moved c 5 (now + c .delay) (customerPart 7 s) (lock s)) × (has 7 l ≡ false)
+        close g′ q =
+            let f = eqb-true (customerPart 7 s + merchantPart 7 s) (total c) (p .1 .0) in
+            let n = event-next 7 (rw o) in (
+              record {
+                terms = terms-on (rw o) (g′ .terms);
+                lacks = lacks-on unclosed (rw o) (fewer 7 unclosed l (g′ .lacks));
+                begun = rw o;
+                closing = rw n (record { part = refl; whole = omega arith; lock′ = refl; due = omega arith });
+                money = rw n (omega (arith, no-funds (rw o), pays-customer, pays-merchant));
+              },
+              g′ .lacks 7 refl,
+            )
+
+        go : (x : Bool) → eqb (c .status) 3 ≡ x → Leaving (next ∷ l) (moved c 5 (now + c .delay) (customerPart 7 s) (lock s)) × (has 7 l ≡ false)
+        go true z =
+            let h : Live running (agreed c) l c = found 3 z g in
+            close (record { terms = h .terms; lacks = fewer 8 unanswered l (h .lacks); money = h .money }) (total-at c 2 (eqb-true (c .status) 3 z))
+        go false z =
+            let y = or-other (eqb (c .status) 3) (eqb (c .status) 4) (p .0) z in
+            let h : Waiting l c = found 4 y g in
+            close (h .live) (total-at c 3 (eqb-true (c .status) 4 y))
+
+    closes : (now : ℕ) (v : Verdict) → Leads 8 (merchantClose now v c)
+    unfolding merchantClose opcodes member
+    closes now v o p pc pm g =
+        let g′ : Live running (agreed c) l c = found 3 (p .0) g in (
+          record {
+            live = record {
+              terms = terms-on (rw o) (g′ .terms);
+              lacks = lacks-on unanswered (rw o) (fewer 8 unanswered l (g′ .lacks));
+              money = omega (arith, no-funds (rw o), pays-customer, pays-merchant);
+            };
+            begun = rw o;
+          },
+          g′ .lacks 8 refl,
+        )
+
+    disputes : (now : ℕ) (h : List ℕ) (v : Verdict) → Leads 9 (dispute now h v c)
+    unfolding dispute opcodes member
+    disputes now h v o p pc pm g =
+        let g′ : Leaving l c = found 5 (p .0) g in
+        let t = terms-on (rw o) (g′ .terms) in
+        let e : split (next ∷ l) ≡ allMerchant (next ∷ l) = rw (o, g′ .lacks 5 refl, g′ .lacks 6 refl, g′ .begun, g′ .lacks 10 refl) in
+        let q = paid-split (next ∷ l) 0 (agreedTotal (next ∷ l)) e (omega (arith, pays-customer)) (omega (arith, pays-merchant, t)) in (
+          record {
+            terms = t;
+            single = single-on (g′ .lacks) (rw o (omega arith));
+            ended = rw (o, g′ .lacks 5 refl, g′ .lacks 6 refl);
+            left = rw (o, g′ .begun);
+            even = omega (arith, no-funds (rw o), pays-customer, pays-merchant);
+            splits = q;
+            disputed = λ _. q ∙ e;
+            either = rw (o, g′ .lacks 6 refl);
+          },
+          g′ .lacks 9 refl,
+        )
+
+    settles : (now : ℕ) → Leads 10 (settle now c)
+    unfolding settle opcodes member
+    settles now o p pc pm g = go (eqb (c .status) 4) refl
+      where
+        go : (x : Bool) → eqb (c .status) 4 ≡ x → Over (next ∷ l) (become 6 c) × (has 10 l ≡ false)
+        go true z =
+            let w : Waiting l c = found 4 z g in
+            let g′ = w .live in
+            let e = eqb-true (c .status) 4 z in
+            let x : a .customer .0 ≡ 0 = pc ∙ rw z in
+            let y : a .merchant .0 ≡ agreed c = pm ∙ rw z (total-at c 3 e) in
+            let t = terms-on (rw o) (g′ .terms) in (
+              record {
+                terms = t;
+                single = single-on (fewer 7 unclosed l (g′ .lacks)) (rw o (omega arith));
+                ended = rw (o, g′ .lacks 5 refl, g′ .lacks 6 refl, g′ .lacks 9 refl);
+                left = rw (o, g′ .lacks 7 refl);
+                even = omega (arith, no-funds (rw o), pays-customer, pays-merchant);
+                splits = paid-split (next ∷ l) 0 (agreedTotal (next ∷ l)) (rw (o, g′ .lacks 5 refl, g′ .lacks 6 refl, g′ .lacks 7 refl, w .begun)) (omega (arith, pays-customer)) (omega (arith, pays-merchant, t));
+                disputed = undisputed (rw o) (g′ .lacks 9 refl);
+                either = rw (o, g′ .lacks 6 refl);
+              },
+              g′ .lacks 10 refl,
+            )
+        go false z =
+            let q = or-other (eqb (c .status) 4) (eqb (c .status) 5) (p .0) z in
+            let g′ : Leaving l c = found 5 q g in
+            let x : a .customer .0 ≡ c .kept .0 = pc ∙ rw z in
+            let y : a .merchant .0 ≡ 0 = pm ∙ rw z in
+            let n = event-skip 7 (rw o) in (
+              record {
+                terms = terms-on (rw o) (g′ .terms);
+                single = single-on (g′ .lacks) (rw o (omega arith));
+                ended = rw (o, g′ .lacks 5 refl, g′ .lacks 6 refl, g′ .lacks 9 refl);
+                left = rw (o, g′ .begun, g′ .lacks 9 refl);
+                even = omega (arith, no-funds (rw o), pays-customer, pays-merchant);
+                splits = paid-split (next ∷ l) (customerPart 7 ((eventOf 7 (next ∷ l)) .string)) (merchantPart 7 ((eventOf 7 (next ∷ l)) .string)) (rw (o, g′ .lacks 5 refl, g′ .lacks 6 refl, g′ .begun)) (rw n (omega (arith, pays-customer))) (rw n (omega (arith, pays-merchant)));
+                disputed = undisputed (rw o) (g′ .lacks 9 refl);
+                either = rw (o, g′ .lacks 6 refl);
+              },
+              g′ .lacks 10 refl,
+            )
+
+    -- An accepted command of a channel leads from its stage to the next, and its opcode had not come.
+    module _ (check : List ℕ → List ℕ → List ℕ → Verdict) (hash : List ℕ → List ℕ) (id : List ℕ) (now : ℕ) where
+      pub moves : k ≡ now → (op : ℕ) → Leads op (plan check hash op id now s c)
+      unfolding plan
+      moves e zero = λ o p. absurd (clash (p .0) refl)
+      moves e (suc zero) = λ o p. absurd (clash (p .0) refl)
+      moves e (suc (suc zero)) = establishes
+      moves e (suc (suc (suc zero))) = fundsCustomer
+      moves e (suc (suc (suc (suc zero)))) = fundsMerchant
+      moves e (suc (suc (suc (suc (suc zero))))) = reclaims _
+      moves e (suc (suc (suc (suc (suc (suc zero)))))) = agrees _ _
+      moves e (suc (suc (suc (suc (suc (suc (suc zero))))))) = leaves now _ _ e
+      moves e (suc (suc (suc (suc (suc (suc (suc (suc zero)))))))) = closes now _
+      moves e (suc (suc (suc (suc (suc (suc (suc (suc (suc zero))))))))) = disputes now _ _
+      moves e (suc (suc (suc (suc (suc (suc (suc (suc (suc (suc zero)))))))))) = settles now
+      moves e (suc (suc (suc (suc (suc (suc (suc (suc (suc (suc (suc n))))))))))) = λ o p. absurd (clash (p .0) refl)
+
+-- ---- each opcode comes once
+
+abbrev pub Once : List Event → Type 0
+Once l = (i : ℕ) → count i l < 2
+
+pub once-on : (e : Event) (l : List Event) → has (opcode (e .string)) l ≡ false → Once l → Once (e ∷ l)
+unfolding opcodes tally
+once-on e l m h i = go (eqb (opcode (e .string)) i) refl
+  where
+    go : (x : Bool) → eqb (opcode (e .string)) i ≡ x → cond x 1 0 + tally i (opcodes l) < 2
+    go true z = let n : has i l ≡ false = rw (eqb-true (opcode (e .string)) i z) at m in omega (arith, tally-none i (opcodes l) n)
+    go false z = omega (arith, h i)
+
+-- Of two that never come together there is at most one.
+pub one-of : (i j : ℕ) (l : List Event) → (has i l && has j l) ≡ false → Once l → count i l + count j l < 2
+one-of i j l e o = go (has i l) refl e
+  where
+    go : (x : Bool) → has i l ≡ x → (x && has j l) ≡ false → count i l + count j l < 2
+    go true z h = omega (arith, tally-none j (opcodes l) h, o i)
+    go false z h = omega (arith, tally-none i (opcodes l) z, o j)

@@ -1,0 +1,250 @@
+-- The third demand, for every list.
+use mathlib.Core.Path.{_≡_, refl, sym, subst}
+use mathlib.Core.Bool.{Bool, true, false, cond, _&&_}
+use mathlib.Core.List.{List, [], _∷_}
+use Prim.Native.Nat.{ℕ, zero, suc, _≤_, _<_}
+use native.Mathlib.Omega.{arith}
+use lib.ListN.{length, getD, set, length-set, length-replicate, getD-replicate}
+use lib.Seq.{getD-set-same, getD-set-other}
+use lib.Dec.{eqb, leb}
+use borrow.Author.Tests.{eqb-true, eqb-false, leb-true, ltb-true, le-leb, lt-ltb, eq-eqb}
+use Rattle.sha256.specs.Digest.{sha256}
+use Rattle.machine.specs.Format.{opcode, size, time, place}
+use Rattle.machine.specs.Book.{cents, limit, theMark, soundChannel, all, sound, noChannel, unused, channel, fresh, opening, reading, readChannel}
+use Rattle.machine.specs.Checks.{Check, Verdict, clean, passed, judge}
+use Rattle.machine.specs.Rules.{Plan, establish, fundCustomer, fundMerchant, reclaim, mutualClose, customerClose, merchantClose, dispute, settle}
+use Rattle.machine.specs.Machine.{answer, Order, setClock, onChannel, shared, carried, plans, plan, noPlan, planned, order, verdict, step}
+use Rattle.machine.specs.Real.{lmsVerdict}
+use Rattle.machine.specs.Ledger.{Entry, Event, accepted, ofChannel, clock, strings, paidElsewhere, opcodes, tally, has, Timely, Standing, recorded, after, Disputes, Accounted, ThirdDemand}
+use Rattle.machine.specs.declared.state.Channel.{Channel}
+use Rattle.machine.specs.declared.state.Book.{Book}
+use Rattle.machine.specs.declared.answers.Judged.{Judged}
+use Rattle.machine.specs.declared.answers.Stepped.{Stepped}
+use Rattle.machine.specs.declared.answers.Opened.{Opened}
+use Rattle.machine.proofs.Laws.{and-both, and-make, same-refl}
+use Rattle.machine.proofs.Judging.{Passed, coded, judge-passed, passed-judge}
+use Rattle.machine.proofs.Life.{Stage}
+use Rattle.machine.proofs.Moves.{next, moves, Once, once-on, one-of}
+use Rattle.machine.proofs.Facts.{Facts, stage-facts}
+
+-- ---- lists
+
+all-of : (p : Channel → Bool) (d : Channel) (l : List Channel) → ((i : ℕ) → i < length l → p (getD l i d) ≡ true) → all p l ≡ true
+all-of p d [] h = refl
+all-of p d (x ∷ l) h = and-make (h 0 (omega arith)) (all-of p d l (λ i k. h (suc i) (omega arith)))
+
+-- A claim of every place of a list, after one place was set.
+set-each : (Q : ℕ → Channel → Type 0) (d : Channel) (l : List Channel) (m : ℕ) (a : Channel) → m < length l → Q m a → ((n : ℕ) → eqb m n ≡ false → Q n (getD l n d)) → (n : ℕ) → Q n (getD (set l m a) n d)
+set-each Q d l m a h q r n = go (eqb m n) refl
+  where
+    go : (x : Bool) → eqb m n ≡ x → Q n (getD (set l m a) n d)
+    go true z = subst (λ j. Q j (getD (set l m a) j d)) (eqb-true m n z) (subst (Q m) (sym (getD-set-same l m a d h)) q)
+    go false z = subst (Q n) (sym (getD-set-other l m n a d (λ e. eqb-false m n z (sym e)))) (r n z)
+
+-- A test that every plan passes.
+abbrev allPlans : (Plan → Bool) → List Plan → Bool
+allPlans p [] = true
+allPlans p (x ∷ l) = p x && allPlans p l
+
+each-plan : (p : Plan → Bool) (d : Plan) (l : List Plan) → allPlans p l ≡ true → p d ≡ true → (i : ℕ) → p (getD l i d) ≡ true
+each-plan p d [] h e i = e
+each-plan p d (x ∷ l) h e zero = (and-both (p x) (allPlans p l) h) .0
+each-plan p d (x ∷ l) h e (suc i) = each-plan p d l ((and-both (p x) (allPlans p l) h) .1) e i
+
+-- ---- the book agrees with its history
+
+record Agrees (id : List ℕ) (t : Standing) : Type 0 where
+  mark : t .book .mark ≡ theMark
+  same : t .book .id ≡ id
+  now : t .book .clock .0 ≡ clock (t .history)
+  early : t .book .clock .0 ≤ limit
+  many : length (t .book .channels) ≡ 64
+  stage : (n : ℕ) → n < 64 → Stage (strings n (t .history)) (channel (t .book) n)
+  idle : paidElsewhere (t .history) ≡ 0
+  once : (n : ℕ) → n < 64 → Once (strings n (t .history))
+
+-- One more accepted string of a channel, and the strings of that channel and of another.
+module _ (h : List Entry) (e : Entry) (yes : accepted e ≡ true) where
+  strings-own : ofChannel (e .string) ≡ true → strings (place (e .string)) (e ∷ h) ≡ next (strings (place (e .string)) h) (e .string) (e .answer) (clock h) ∷ strings (place (e .string)) h
+  unfolding strings
+  strings-own o = rw (yes, o, eq-eqb (place (e .string)) (place (e .string)) refl)
+
+  strings-other : (n : ℕ) → (ofChannel (e .string) && eqb (place (e .string)) n) ≡ false → strings n (e ∷ h) ≡ strings n h
+  unfolding strings
+  strings-other n o = rw (yes, o)
+
+-- What an accepted order leaves.
+abbrev granted : Order → ℕ → Stepped
+granted o steps = record { book = o .book; answer = record { refusal = 0; customer = o .pays .customer; merchant = o .pays .merchant; steps = steps } }
+
+module _ (id : List ℕ) (t : Standing) (i : Agrees id t) where
+  facts : (n : ℕ) → n < 64 → Facts (strings n (t .history)) (channel (t .book) n)
+  facts n p = stage-facts _ _ _ refl (i .stage n p)
+
+  sound-book : sound (t .book) ≡ true
+  unfolding sound
+  sound-book = and-make (and-make (eq-eqb _ _ (i .mark)) (le-leb _ _ (i .early))) (all-of soundChannel noChannel (t .book .channels) (λ n p. (facts n (omega (arith, i .many))) .sound))
+
+  module _ (s : List ℕ) where
+    refused-agrees : (code steps : ℕ) → eqb code 0 ≡ false → Agrees id (recorded t s (record { book = t .book; answer = record { refusal = code; customer = cents 0; merchant = cents 0; steps = steps } }))
+    unfolding strings clock paidElsewhere
+    refused-agrees code steps z = record {
+      mark = i .mark;
+      same = i .same;
+      now = rw z (i .now);
+      early = i .early;
+      many = i .many;
+      stage = λ n p. rw z (i .stage n p);
+      once = λ n p. rw z (i .once n p);
+      idle = rw z (omega (arith, i .idle));
+    }
+
+    clock-agrees : (steps : ℕ) → opcode s ≡ 1 → Passed ((setClock (t .book) (time s)) .checks) → Agrees id (recorded t s (granted (setClock (t .book) (time s)) steps))
+    unfolding strings clock paidElsewhere
+    clock-agrees steps o p =
+        let q = and-both (leb (t .book .clock .0) (time s)) _ (p .0) in
+        record {
+          mark = i .mark;
+          same = i .same;
+          now = rw o;
+          early = leb-true _ _ (q .1);
+          many = i .many;
+          stage = λ n p. rw o (i .stage n p);
+          once = λ n p. rw o (i .once n p);
+          idle = rw o (omega (arith, i .idle));
+        }
+
+    module _ (check : List ℕ → List ℕ → List ℕ → Verdict) (hash : List ℕ → List ℕ) where
+      abbrev named : Order
+      named = onChannel (t .book) (place s) (planned check hash (t .book) s)
+
+      channel-agrees : (steps : ℕ) → eqb (opcode s) 1 ≡ false → ofChannel s ≡ true → Passed (named .checks) → Agrees id (recorded t s (granted named steps))
+      unfolding clock paidElsewhere
+      channel-agrees steps u o p = record {
+        mark = i .mark;
+        same = i .same;
+        now = rw u (i .now);
+        early = i .early;
+        many = simp length-set (i .many);
+        idle = rw (o, p .0) (omega (arith, i .idle));
+        stage = λ n q. (each n q) .0;
+        once = λ n q. (each n q) .1;
+      }
+        where
+          r : Stepped
+          r = granted named steps
+
+          e : Entry
+          e = record { string = s; answer = r .answer }
+
+          lt : place s < 64
+          lt = ltb-true _ _ (p .0)
+
+          l : List Event
+          l = strings (place s) (t .history)
+
+          go : Stage (next l s (r .answer) (clock (t .history)) ∷ l) ((planned check hash (t .book) s) .channel) × (has (opcode s) l ≡ false)
+          go = moves l s (r .answer) (clock (t .history)) (channel (t .book) (place s)) check hash (t .book .id) (t .book .clock .0) (sym (i .now)) (opcode s) refl (p .1) refl refl (i .stage (place s) lt)
+
+          Q : ℕ → Channel → Type 0
+          Q n c = n < 64 → Stage (strings n (e ∷ t .history)) c × Once (strings n (e ∷ t .history))
+
+          each : (n : ℕ) → Q n (channel (r .book) n)
+          each = set-each Q noChannel (t .book .channels) (place s) ((planned check hash (t .book) s) .channel) (omega (arith, lt, i .many))
+              (λ _. rw (strings-own (t .history) e refl o) (go .0, once-on _ l (go .1) (i .once (place s) lt)))
+              (λ n z q. rw (strings-other (t .history) e refl n (rw (o, z))) (i .stage n q, i .once n q))
+
+      abbrev checksOf : List Check
+      checksOf = shared (t .book) s ((order check hash (t .book) s) .checks)
+
+      coded-checks : coded checksOf ≡ true
+      unfolding plan establish fundCustomer fundMerchant reclaim mutualClose customerClose merchantClose dispute settle
+      coded-checks = go (eqb (opcode s) 1)
+        where
+          go : (x : Bool) → coded ((cond x (setClock (t .book) (time s)) named) .checks) ≡ true
+          go true = refl
+          go false = each-plan (λ p. coded (p .checks)) (noPlan (channel (t .book) (place s))) (plans check hash (t .book .id) (t .book .clock .0) s (channel (t .book) (place s))) refl refl (opcode s)
+
+      granted-agrees : (steps : ℕ) → Passed checksOf → Agrees id (recorded t s (granted (order check hash (t .book) s) steps))
+      granted-agrees steps p = go (eqb (opcode s) 1) refl (p .1 .1 .1)
+        where
+          go : (x : Bool) → eqb (opcode s) 1 ≡ x → Passed ((cond x (setClock (t .book) (time s)) named) .checks) → Agrees id (recorded t s (granted (cond x (setClock (t .book) (time s)) named) steps))
+          go true z q = clock-agrees steps (eqb-true _ _ z) q
+          go false z q =
+              let k = and-both (leb 1 (opcode s)) (leb (opcode s) 10) (p .1 .0) in
+              channel-agrees steps z (and-make (le-leb 2 (opcode s) (omega (arith, leb-true 1 (opcode s) (k .0), eqb-false (opcode s) 1 z))) (k .1)) q
+
+      step-agrees : Agrees id (recorded t s (step check hash (t .book) s))
+      unfolding step answer
+      step-agrees = go (passed j) refl
+        where
+          j : Judged
+          j = judge clean checksOf
+
+          go : (x : Bool) → passed j ≡ x → Agrees id (recorded t s (carried j (t .book) (order check hash (t .book) s)))
+          go true z = rw z (rw (eqb-true (j .refusal) 0 z) (granted-agrees (j .steps) ((judge-passed checksOf clean coded-checks (eqb-true (j .refusal) 0 z)) .1)))
+          go false z = rw z (refused-agrees (j .refusal) (j .steps) z)
+
+-- ---- from the opening on
+
+fresh-agrees : (id : List ℕ) → Agrees id (record { book = fresh id; history = [] })
+unfolding fresh strings clock paidElsewhere opcodes tally
+fresh-agrees id = record {
+  mark = refl;
+  same = refl;
+  now = refl;
+  early = omega arith;
+  many = length-replicate 64 unused;
+  stage = λ n p. subst (Stage []) (sym (getD-replicate 64 n unused noChannel p)) refl;
+  idle = refl;
+  once = λ n p i. omega arith;
+}
+
+module _ (check : List ℕ → List ℕ → List ℕ → Verdict) (hash : List ℕ → List ℕ) where
+  after-agrees : (id : List ℕ) (t : Standing) (l : List (List ℕ)) → Agrees id t → Agrees id (after check hash t l)
+  unfolding after
+  after-agrees id t [] i = i
+  after-agrees id t (s ∷ l) i = after-agrees id (recorded t s (step check hash (t .book) s)) l (step-agrees id t i s check hash)
+
+  module _ (id : List ℕ) (t : Standing) (i : Agrees id t) (n : ℕ) (p : n < 64) where
+    dispute-passes : Timely (strings n (t .history)) (clock (t .history)) → (d : List ℕ) → Disputes check hash id n (strings n (t .history)) d → Passed (checksOf id t i d check hash)
+    unfolding plan dispute verdict
+    dispute-passes w d v =
+        let m = (facts id t i n p) .timely (w .closing) (w .undisputed) (w .unsettled) in
+        let c = channel (t .book) n in
+        let early : t .book .clock .0 < c .deadline .0 = omega (arith, m .1 .closing .due, m .1 .terms .delays, w .early, i .now) in
+        rw (v .code, v .named) (sound-book id t i, (refl, (eq-eqb (length d) (size 9) (v .whole), (lt-ltb n 64 p, (eq-eqb (c .status) 5 (m .0), (lt-ltb _ _ early, (rw (v .opens, m .1 .closing .lock′) (same-refl _), (rw (i .same, m .1 .terms .signer) (v .good), tt))))))))
+
+    kept : Accounted check hash id (t .book) (t .history) n (strings n (t .history))
+    unfolding reading readChannel step answer
+    kept =
+        let f = facts id t i n p in
+        let u : reading (t .book) n ≡ readChannel (channel (t .book) n) = rw (sound-book id t i, lt-ltb n 64 p) in
+        record {
+          read = rw u;
+          conserved = rw u (f .conserved);
+          closes = rw u (f .closes);
+          splits = f .splits;
+          disputed = f .disputed;
+          once = i .once n p;
+          parted = one-of 6 7 (strings n (t .history)) (f .either) (i .once n p);
+          single = f .single;
+          begun = f .begun;
+          elsewhere = i .idle;
+          dispute = λ w d v. passed-judge (checksOf id t i d check hash) clean (dispute-passes w d v) refl;
+        }
+
+opened : (lent : Book) (id : List ℕ) → (opening lent id) .refusal ≡ 0 → (opening lent id) .book ≡ fresh id
+unfolding opening
+opened lent id = go (eqb (length id) 16)
+  where
+    go : (x : Bool) → let o = cond {A = Opened} x (record { book = fresh id; refusal = 0 }) (record { book = lent; refusal = 2 }) in o .refusal ≡ 0 → o .book ≡ fresh id
+    go true z = refl
+    go false z = absurd (eqb-false 2 0 refl z)
+
+pub third-demand : (check : List ℕ → List ℕ → List ℕ → Verdict) (hash : List ℕ → List ℕ) → ThirdDemand check hash
+third-demand check hash lent id e l n p = rw (opened lent id e) (kept check hash id _ (after-agrees check hash id _ l (fresh-agrees id)) n p)
+
+-- Of the real machine.
+pub third-demand-met : ThirdDemand lmsVerdict sha256
+third-demand-met = third-demand lmsVerdict sha256

@@ -1,0 +1,31 @@
+-- The starred figures: the rules by computing, the chain steps by the law of `lms`.
+use mathlib.Core.Path.{refl}
+use mathlib.Core.List.{List}
+use Prim.Native.Nat.{ℕ}
+use lib.ListN.{replicate}
+use Rattle.lms.specs.OneTime.{deficit}
+use Rattle.lms.proofs.StepLaw.{stepLaw}
+use Rattle.machine.specs.Book.{total, held, readChannel}
+use Rattle.machine.specs.Checks.{ask}
+use Rattle.machine.specs.Rules.{fundCustomer, fundMerchant, mutualClose, customerClose, dispute, settle}
+use Rattle.machine.specs.Machine.{answer, concluded, ruling}
+use Rattle.machine.specs.Figures.{Figures}
+use Rattle.machine.proofs.Laws.{same-refl}
+
+pub figures : (key lock : List ℕ) (d x v w : ℕ) → Figures key lock d x v w
+unfolding deficit total held readChannel ask fundCustomer fundMerchant mutualClose customerClose dispute settle answer concluded ruling
+figures key lock d x v w = record {
+  funds-900 = refl;
+  funds-899 = refl;
+  funds-100 = refl;
+  agrees-600 = refl;
+  agrees-601 = refl;
+  wraps = refl;
+  closes-at-1000 = refl;
+  disputes-at-4599 = rw (same-refl lock);
+  disputes-at-4600 = refl;
+  settles-at-4599 = refl;
+  settles-at-4600 = refl;
+  steps-of-FF = stepLaw .law (replicate 32 255) refl;
+  steps-of-00 = stepLaw .law (replicate 32 0) refl;
+}

@@ -1,0 +1,141 @@
+-- Document 01, "Book": T, held, soundness, readings; the opening (under "Checks").
+use mathlib.Core.Bool.{Bool, true, cond, not, _&&_, _||_}
+use mathlib.Core.List.{List, [], _∷_}
+use Prim.Native.Nat.{ℕ, _+_, _-_, _^_}
+use lib.ListN.{length, getD, set, replicate}
+use lib.Dec.{eqb, leb, ltb}
+use Rattle.machine.specs.declared.units.Cents.{Cents}
+use Rattle.machine.specs.declared.units.Seconds.{Seconds}
+use Rattle.machine.specs.declared.state.Party.{Party}
+use Rattle.machine.specs.declared.state.Channel.{Channel}
+use Rattle.machine.specs.declared.state.Book.{Book}
+use Rattle.machine.specs.declared.answers.Opened.{Opened}
+use Rattle.machine.specs.declared.answers.Reading.{Reading}
+
+abbrev pub cents : ℕ → Cents
+cents k = record { 0 = k }
+
+abbrev pub seconds : ℕ → Seconds
+seconds k = record { 0 = k }
+
+abbrev pub party : List ℕ → ℕ → Party
+party key deposit = record { key = key; deposit = cents deposit }
+
+-- The largest clock and the largest total.
+abbrev pub limit : ℕ
+limit = 2 ^ 63 - 1
+
+-- The shortest and the longest delay.
+abbrev pub shortest : ℕ
+shortest = 3600
+
+abbrev pub longest : ℕ
+longest = 2592000
+
+-- The mark that every opening writes: "arbiter!" in bytes.
+abbrev pub theMark : ℕ
+theMark = 0x6172_6269_7465_7221
+
+-- ---- a channel
+
+-- The two agreed deposits: D_c + D_b.
+abbrev pub agreed : Channel → ℕ
+agreed ch = ch .customer .deposit .0 + ch .merchant .deposit .0
+
+-- T: 0 in status 0, else the total of the two agreed deposits.
+unfoldable pub total : Channel → ℕ
+total ch = cond (eqb (ch .status) 0) 0 (agreed ch)
+
+-- Held: 0 in statuses 0, 1, 6; D_c in 2; T in 3 and 4; the closing's customer part in 5.
+unfoldable pub held : Channel → ℕ
+held ch =
+    cond (eqb (ch .status) 2) (ch .customer .deposit .0)
+    (cond (eqb (ch .status) 3 || eqb (ch .status) 4) (total ch)
+    (cond (eqb (ch .status) 5) (ch .kept .0) 0))
+
+-- Status 4, merchant closing, or 5, customer closing.
+abbrev pub closing : Channel → Bool
+closing ch = eqb (ch .status) 4 || eqb (ch .status) 5
+
+-- ---- soundness
+
+-- Past status 0: T, the delay and, in status 5, the kept c are in range.
+abbrev pub soundTerms : Channel → Bool
+soundTerms ch =
+    leb (agreed ch) limit && (leb shortest (ch .delay) && leb (ch .delay) longest) && (not (eqb (ch .status) 5) || leb (ch .kept .0) (agreed ch))
+
+unfoldable pub soundChannel : Channel → Bool
+soundChannel ch = leb (ch .status) 6 && (eqb (ch .status) 0 || soundTerms ch)
+
+abbrev pub all : (Channel → Bool) → List Channel → Bool
+all p [] = true
+all p (ch ∷ l) = p ch && all p l
+
+unfoldable pub sound : Book → Bool
+sound b = eqb (b .mark) theMark && leb (b .clock .0) limit && all soundChannel (b .channels)
+
+-- ---- one channel of a book, and the book with a part replaced
+
+-- What stands past the end of the channels.
+abbrev pub noChannel : Channel
+noChannel = record {
+  status = 0;
+  customer = party [] 0;
+  merchant = party [] 0;
+  delay = 0;
+  deadline = seconds 0;
+  kept = cents 0;
+  lock = [];
+}
+
+abbrev pub channel : Book → ℕ → Channel
+channel b n = getD (b .channels) n noChannel
+
+abbrev pub withChannel : Book → ℕ → Channel → Book
+withChannel b n ch = record { mark = b .mark; id = b .id; clock = b .clock; channels = set (b .channels) n ch }
+
+abbrev pub withClock : Book → ℕ → Book
+withClock b t = record { mark = b .mark; id = b .id; clock = seconds t; channels = b .channels }
+
+-- ---- the opening: a fresh book with the id, and status 0 and zeros in every channel; an id not 16 bytes long gives 2
+
+abbrev pub unused : Channel
+unused = record {
+  status = 0;
+  customer = party (replicate 56 0) 0;
+  merchant = party (replicate 56 0) 0;
+  delay = 0;
+  deadline = seconds 0;
+  kept = cents 0;
+  lock = replicate 32 0;
+}
+
+-- A book to lend: zeros, and no mark.
+abbrev pub blankBook : Book
+blankBook = record { mark = 0; id = replicate 16 0; clock = seconds 0; channels = replicate 64 unused }
+
+unfoldable pub fresh : List ℕ → Book
+fresh id = record { mark = theMark; id = id; clock = seconds 0; channels = replicate 64 unused }
+
+unfoldable pub opening : Book → List ℕ → Opened
+opening lent id = cond (eqb (length id) 16) (record { book = fresh id; refusal = 0 }) (record { book = lent; refusal = 2 })
+
+-- ---- a reading: the deadline is 0 outside 4 and 5, the closing's customer part and lock zeros outside 5
+
+abbrev pub noReading : ℕ → Reading
+noReading r = record { refusal = r; status = 0; total = cents 0; held = cents 0; deadline = seconds 0; kept = cents 0; lock = replicate 32 0 }
+
+unfoldable pub readChannel : Channel → Reading
+readChannel ch = record {
+  refusal = 0;
+  status = ch .status;
+  total = cents (total ch);
+  held = cents (held ch);
+  deadline = cond (closing ch) (ch .deadline) (seconds 0);
+  kept = cond (eqb (ch .status) 5) (ch .kept) (cents 0);
+  lock = cond (eqb (ch .status) 5) (ch .lock) (replicate 32 0);
+}
+
+-- Of an unsound book 99 and zeros, of a sound one with n from 64 on 4 and zeros.
+unfoldable pub reading : Book → ℕ → Reading
+reading b n = cond (sound b) (cond (ltb n 64) (readChannel (channel b n)) (noReading 4)) (noReading 99)

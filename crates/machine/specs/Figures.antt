@@ -1,0 +1,72 @@
+-- Document 01, "Figures at the edges": the starred rows, on the rules with verdicts given.
+use mathlib.Core.Path.{_≡_}
+use mathlib.Core.Bool.{true}
+use mathlib.Core.List.{List}
+use Prim.Native.Nat.{ℕ, _-_, _^_}
+use lib.ListN.{replicate}
+use Rattle.lms.specs.OneTime.{stepCount}
+use Rattle.machine.specs.Book.{cents, seconds, party, readChannel}
+use Rattle.machine.specs.Checks.{Verdict}
+use Rattle.machine.specs.Rules.{Plan, fundCustomer, fundMerchant, mutualClose, customerClose, dispute, settle}
+use Rattle.machine.specs.Machine.{ruling}
+use Rattle.machine.specs.declared.state.Channel.{Channel}
+use Rattle.machine.specs.declared.answers.Ruled.{Ruled}
+
+-- What a row shows: refusal and payments, then the reading's status, held and deadline.
+pub record Row : Type 0 where
+  pub refusal : ℕ
+  pub customer : ℕ
+  pub merchant : ℕ
+  pub status : ℕ
+  pub held : ℕ
+  pub deadline : ℕ
+
+abbrev pub row : ℕ → ℕ → ℕ → ℕ → ℕ → ℕ → Row
+row refusal customer merchant status held deadline = record {
+  refusal = refusal;
+  customer = customer;
+  merchant = merchant;
+  status = status;
+  held = held;
+  deadline = deadline;
+}
+
+abbrev pub shown : Ruled → Row
+shown r =
+    row (r .answer .refusal) (r .answer .customer .0) (r .answer .merchant .0) ((readChannel (r .channel)) .status) ((readChannel (r .channel)) .held .0) ((readChannel (r .channel)) .deadline .0)
+
+-- A rule on a channel.
+abbrev pub by : (Channel → Plan) → Channel → Row
+by rule ch = shown (ruling ch (rule ch))
+
+abbrev pub good : ℕ → Verdict
+good steps = record { good = true; steps = steps }
+
+-- With any keys and lock, any deadline d and kept part x before a closing, and any step counts v and w.
+module _ (key lock : List ℕ) (d x v w : ℕ) where
+  -- D_c 900, D_b 100, delay 3,600.
+  abbrev pub example : ℕ → ℕ → ℕ → Channel
+  example status deadline kept = record {
+    status = status;
+    customer = party key 900;
+    merchant = party key 100;
+    delay = 3600;
+    deadline = seconds deadline;
+    kept = cents kept;
+    lock = lock;
+  }
+
+  pub record Figures : Type 0 where
+    pub funds-900 : by (fundCustomer 900) (example 1 d x) ≡ row 0 0 0 2 900 0
+    pub funds-899 : by (fundCustomer 899) (example 1 d x) ≡ row 8 0 0 1 0 0
+    pub funds-100 : by (fundMerchant 100) (example 2 d x) ≡ row 0 0 0 3 1000 0
+    pub agrees-600 : by (mutualClose 400 600 (good v) (good w)) (example 3 d x) ≡ row 0 400 600 6 0 0
+    pub agrees-601 : by (mutualClose 400 601 (good v) (good w)) (example 3 d x) ≡ row 8 0 0 3 1000 0
+    pub wraps : by (mutualClose (2 ^ 64 - 1) 1001 (good v) (good w)) (example 3 d x) ≡ row 8 0 0 3 1000 0
+    pub closes-at-1000 : by (customerClose 1000 lock 700 300 (good v) (good w)) (example 3 d x) ≡ row 0 0 300 5 700 4600
+    pub disputes-at-4599 : by (dispute 4599 lock (good v)) (example 5 4600 700) ≡ row 0 0 700 6 0 0
+    pub disputes-at-4600 : by (dispute 4600 lock (good v)) (example 5 4600 700) ≡ row 9 0 0 5 700 4600
+    pub settles-at-4599 : by (settle 4599) (example 5 4600 700) ≡ row 9 0 0 5 700 4600
+    pub settles-at-4600 : by (settle 4600) (example 5 4600 700) ≡ row 0 700 0 6 0 0
+    pub steps-of-FF : stepCount (replicate 32 255) ≡ 510
+    pub steps-of-00 : stepCount (replicate 32 0) ≡ 8415

@@ -1,0 +1,186 @@
+-- Document 01, "What a closed channel paid" and the mission's third demand: its words, read from the opening, the strings and their
+-- answers, and the one claim about the whole list.
+use mathlib.Core.Path.{_≡_}
+use mathlib.Core.Bool.{Bool, true, false, cond, _&&_, _||_}
+use mathlib.Core.List.{List, [], _∷_}
+use Prim.Native.Nat.{ℕ, _+_, _<_}
+use lib.ListN.{length}
+use lib.Dec.{eqb, leb, ltb}
+use Rattle.machine.specs.Format.{opcode, size, time, place, amount, customerDeposit, merchantDeposit, delay, customerPart, merchantPart, lock, merchantKey, secret, signatures, signature, message}
+use Rattle.machine.specs.Book.{cents, opening, reading}
+use Rattle.machine.specs.Checks.{Verdict}
+use Rattle.machine.specs.Rules.{delayed}
+use Rattle.machine.specs.Machine.{step}
+use Rattle.machine.specs.declared.state.Book.{Book}
+use Rattle.machine.specs.declared.answers.Answer.{Answer}
+use Rattle.machine.specs.declared.answers.Stepped.{Stepped}
+
+-- ---- a history: byte strings and the answers to them, the last one first
+
+pub record Entry : Type 0 where
+  pub string : List ℕ
+  pub answer : Answer
+
+abbrev pub accepted : Entry → Bool
+accepted e = eqb (e .answer .refusal) 0
+
+-- 02 to 0A.
+abbrev pub ofChannel : List ℕ → Bool
+ofChannel s = leb 2 (opcode s) && leb (opcode s) 10
+
+-- Clock: the time of the last accepted 01, 0 where there is none.
+unfoldable pub clock : List Entry → ℕ
+clock [] = 0
+clock (e ∷ h) = cond (accepted e && eqb (opcode (e .string)) 1) (time (e .string)) (clock h)
+
+-- An accepted string of a channel, its answer, and the clock at it.
+pub record Event : Type 0 where
+  pub string : List ℕ
+  pub answer : Answer
+  pub clock : ℕ
+
+-- The strings of channel n: the accepted 02 to 0A that name n.
+unfoldable pub strings : ℕ → List Entry → List Event
+strings n [] = []
+strings n (e ∷ h) =
+    cond (accepted e && (ofChannel (e .string) && eqb (place (e .string)) n)) (record { string = e .string; answer = e .answer; clock = clock h } ∷ strings n h) (strings n h)
+
+-- What the strings that are no channel's were paid, to both sides together: 0 exactly when each paid 0 and 0.
+unfoldable pub paidElsewhere : List Entry → ℕ
+paidElsewhere [] = 0
+paidElsewhere (e ∷ h) =
+    cond (accepted e && (ofChannel (e .string) && ltb (place (e .string)) 64)) 0 (e .answer .customer .0 + e .answer .merchant .0) + paidElsewhere h
+
+-- ---- words about the strings of one channel
+
+unfoldable pub sum : (Event → ℕ) → List Event → ℕ
+sum f [] = 0
+sum f (e ∷ l) = f e + sum f l
+
+abbrev pub deposit : Event → ℕ
+deposit e = cond (eqb (opcode (e .string)) 3 || eqb (opcode (e .string)) 4) (amount (e .string)) 0
+
+-- Deposits: the sum of the cents in its accepted 03 and 04.
+abbrev pub deposits : List Event → ℕ
+deposits l = sum deposit l
+
+pub record Paid : Type 0 where
+  pub customer : ℕ
+  pub merchant : ℕ
+
+-- Paid to each side: the sums of these fields in the answers.
+abbrev pub paid : List Event → Paid
+paid l = record { customer = sum (λ e. e .answer .customer .0) l; merchant = sum (λ e. e .answer .merchant .0) l }
+
+-- Their opcodes: is there one, and how many are there?
+unfoldable pub opcodes : List Event → List ℕ
+opcodes [] = []
+opcodes (e ∷ l) = opcode (e .string) ∷ opcodes l
+
+unfoldable pub member : ℕ → List ℕ → Bool
+member k [] = false
+member k (x ∷ l) = eqb x k || member k l
+
+unfoldable pub tally : ℕ → List ℕ → ℕ
+tally k [] = 0
+tally k (x ∷ l) = cond (eqb x k) 1 0 + tally k l
+
+abbrev pub has : ℕ → List Event → Bool
+has k l = member k (opcodes l)
+
+abbrev pub count : ℕ → List Event → ℕ
+count k l = tally k (opcodes l)
+
+-- The string with this opcode: the claim says that there is at most one.
+abbrev pub noEvent : Event
+noEvent = record { string = []; answer = record { refusal = 0; customer = cents 0; merchant = cents 0; steps = 0 }; clock = 0 }
+
+unfoldable pub eventOf : ℕ → List Event → Event
+eventOf k [] = noEvent
+eventOf k (e ∷ l) = cond (eqb (opcode (e .string)) k) e (eventOf k l)
+
+-- Closed: an accepted 05, 06, 09 or 0A.
+abbrev pub closed : List Event → Bool
+closed l = has 5 l || has 6 l || has 9 l || has 10 l
+
+abbrev pub closings : List Event → ℕ
+closings l = count 5 l + count 6 l + count 9 l + count 10 l
+
+-- D_c and T of the accepted 02; its delay, with 0 read as in 02.
+abbrev pub agreedCustomer : List Event → ℕ
+agreedCustomer l = customerDeposit ((eventOf 2 l) .string)
+
+abbrev pub agreedTotal : List Event → ℕ
+agreedTotal l = customerDeposit ((eventOf 2 l) .string) + merchantDeposit ((eventOf 2 l) .string)
+
+abbrev pub agreedDelay : List Event → ℕ
+agreedDelay l = delayed (delay ((eventOf 2 l) .string))
+
+-- c and b of the accepted 06 or 07.
+abbrev pub parts : ℕ → List Event → Paid
+parts op l = record { customer = customerPart op ((eventOf op l) .string); merchant = merchantPart op ((eventOf op l) .string) }
+
+abbrev pub allMerchant : List Event → Paid
+allMerchant l = record { customer = 0; merchant = agreedTotal l }
+
+-- 05: D_c, 0. 06: c, b. 07 then 0A: c, b. 07 then 09: 0, T. 08 then 0A: 0, T. A 07 that answers an 08 counts as 07.
+abbrev pub split : List Event → Paid
+split l =
+    cond (has 5 l) (record { customer = agreedCustomer l; merchant = 0 })
+    (cond (has 6 l) (parts 6 l)
+    (cond (has 7 l && has 10 l) (parts 7 l)
+    (cond (has 7 l && has 9 l) (allMerchant l)
+    (cond (has 8 l && has 10 l) (allMerchant l)
+    (record { customer = 0; merchant = 0 })))))
+
+-- A customer's closing is before its deadline: an accepted 07, no accepted 09 or 0A, and the clock after the list is early.
+pub record Timely (l : List Event) (now : ℕ) : Type 0 where
+  pub closing : has 7 l ≡ true
+  pub undisputed : has 9 l ≡ false
+  pub unsettled : has 10 l ≡ false
+  pub early : now < (eventOf 7 l) .clock + agreedDelay l
+
+-- ---- the claim
+
+-- The book and the history so far.
+pub record Standing : Type 0 where
+  pub book : Book
+  pub history : List Entry
+
+abbrev pub recorded : Standing → List ℕ → Stepped → Standing
+recorded t s r = record { book = r .book; history = record { string = s; answer = r .answer } ∷ t .history }
+
+module _ (check : List ℕ → List ℕ → List ℕ → Verdict) (hash : List ℕ → List ℕ) where
+  -- A list of strings, each on the book that the one before left.
+  unfoldable pub after : Standing → List (List ℕ) → Standing
+  after t [] = t
+  after t (s ∷ l) = after (recorded t s (step check hash (t .book) s)) l
+
+  -- The dispute: a 09 of whole length that names n; its secret hashes to the lock, and the signature check says yes to its signature for
+  -- the key of the merchant in n's 02 and the signed message of this 09, with the id from the opening.
+  pub record Disputes (id : List ℕ) (n : ℕ) (l : List Event) (d : List ℕ) : Type 0 where
+    pub code : opcode d ≡ 9
+    pub whole : length d ≡ size 9
+    pub named : place d ≡ n
+    pub opens : hash (secret d) ≡ lock ((eventOf 7 l) .string)
+    pub good : (check (merchantKey ((eventOf 2 l) .string)) (message (signatures 9) id d) (signature (signatures 9) d)) .good ≡ true
+
+  -- Of channel n of a book with this id and history, where l are the strings of n.
+  pub record Accounted (id : List ℕ) (b : Book) (h : List Entry) (n : ℕ) (l : List Event) : Type 0 where
+    pub read : (reading b n) .refusal ≡ 0
+    pub conserved : deposits l ≡ (reading b n) .held .0 + (paid l) .customer + (paid l) .merchant
+    pub closes : closed l ≡ eqb ((reading b n) .status) 6
+    pub splits : closed l ≡ true → paid l ≡ split l
+    pub disputed : has 9 l ≡ true → paid l ≡ allMerchant l
+    pub elsewhere : paidElsewhere h ≡ 0
+    pub dispute : Timely l (clock h) → (d : List ℕ) → Disputes id n l d → (step check hash b d) .answer .refusal ≡ 0
+    -- its words are well said: no string without a 02, each command at most once, one of 06 and 07, one that closes
+    pub begun : (k : ℕ) → has k l ≡ true → has 2 l ≡ true
+    pub once : (k : ℕ) → count k l < 2
+    pub parted : count 6 l + count 7 l < 2
+    pub single : closings l < 2
+
+  -- After every list given to a book just opened.
+  abbrev pub ThirdDemand : Type 0
+  ThirdDemand =
+      (lent : Book) (id : List ℕ) → (opening lent id) .refusal ≡ 0 → (l : List (List ℕ)) (n : ℕ) → n < 64 → let t = after (record { book = (opening lent id) .book; history = [] }) l in Accounted id (t .book) (t .history) n (strings n (t .history))

@@ -1,0 +1,11 @@
+-- Document 01 as definitions: the command format, the book, the checks, the rules, the machine; the third demand; the worked figures.
+pub mod Format
+pub mod Book
+pub mod Due
+pub mod Checks
+pub mod Rules
+pub mod Machine
+pub mod Real
+pub mod WrongTurns
+pub mod Ledger
+pub mod Figures

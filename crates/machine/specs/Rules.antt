@@ -1,0 +1,185 @@
+-- Document 01, "Commands" and checks 5 to 12: for each of 02 to 0A its checks on the channel, in the paper's order, what becomes of the
+-- channel, and whom it pays. A rule takes the operands and the verdicts.
+use mathlib.Core.Bool.{Bool, cond, not, _&&_, _||_}
+use mathlib.Core.List.{List, [], _∷_}
+use Prim.Native.Nat.{ℕ, _+_}
+use lib.Dec.{eqb, leb, ltb}
+use Rattle.wire.specs.Numbers.{u32At}
+use Rattle.wire.specs.Parts.{same}
+use Rattle.machine.specs.Book.{cents, seconds, limit, shortest, longest, total, closing}
+use Rattle.machine.specs.Checks.{Check, test, signed, Verdict}
+use Rattle.machine.specs.declared.units.Cents.{Cents}
+use Rattle.machine.specs.declared.state.Party.{Party}
+use Rattle.machine.specs.declared.state.Channel.{Channel}
+
+pub record Payment : Type 0 where
+  pub customer : Cents
+  pub merchant : Cents
+
+-- To the customer and to the merchant.
+abbrev pub pay : ℕ → ℕ → Payment
+pay c b = record { customer = cents c; merchant = cents b }
+
+-- What a command asks, the channel that it leaves, and what it pays.
+pub record Plan : Type 0 where
+  pub checks : List Check
+  pub channel : Channel
+  pub pays : Payment
+
+-- ---- the channel with some values replaced: the others stay
+
+abbrev pub moved : Channel → ℕ → ℕ → ℕ → List ℕ → Channel
+moved ch status deadline kept lock = record {
+  status = status;
+  customer = ch .customer;
+  merchant = ch .merchant;
+  delay = ch .delay;
+  deadline = seconds deadline;
+  kept = cents kept;
+  lock = lock;
+}
+
+abbrev pub become : ℕ → Channel → Channel
+become status ch = moved ch status (ch .deadline .0) (ch .kept .0) (ch .lock)
+
+-- ---- 02 establish
+
+-- A delay of 0 stands for 86,400.
+unfoldable pub delayed : ℕ → ℕ
+delayed d = cond (eqb d 0) 86400 d
+
+-- Types 6 and 4.
+abbrev pub typed : List ℕ → Bool
+typed key = eqb (u32At key 0) 6 && eqb (u32At key 4) 4
+
+unfoldable pub keyed : List ℕ → List ℕ → Bool
+keyed customer merchant = typed customer && typed merchant && not (same customer merchant)
+
+-- The keys, the deposits, the delay and the status are named: deadline, kept part and lock stay.
+abbrev pub established : Party → Party → ℕ → Channel → Channel
+established customer merchant d ch = record {
+  status = 1;
+  customer = customer;
+  merchant = merchant;
+  delay = delayed d;
+  deadline = ch .deadline;
+  kept = ch .kept;
+  lock = ch .lock;
+}
+
+unfoldable pub establish : Party → Party → ℕ → Channel → Plan
+establish customer merchant d ch = record {
+  checks =
+      test 5 (eqb (ch .status) 0)
+      ∷ test 6 (keyed (customer .key) (merchant .key))
+      ∷ test 7 (eqb d 0 || (leb shortest d && leb d longest))
+      ∷ test 8 (leb 1 (customer .deposit .0) && leb (customer .deposit .0 + merchant .deposit .0) limit)
+      ∷ [];
+  channel = established customer merchant d ch;
+  pays = pay 0 0;
+}
+
+-- ---- 03 customer funds: status 2, or 3 where D_b is 0. 04 merchant funds
+
+unfoldable pub fundCustomer : ℕ → Channel → Plan
+fundCustomer paid ch = record {
+  checks =
+      test 5 (eqb (ch .status) 1)
+      ∷ test 8 (eqb paid (ch .customer .deposit .0))
+      ∷ [];
+  channel = become (cond (eqb (ch .merchant .deposit .0) 0) 3 2) ch;
+  pays = pay 0 0;
+}
+
+unfoldable pub fundMerchant : ℕ → Channel → Plan
+fundMerchant paid ch = record {
+  checks =
+      test 5 (eqb (ch .status) 2)
+      ∷ test 8 (eqb paid (ch .merchant .deposit .0))
+      ∷ [];
+  channel = become 3 ch;
+  pays = pay 0 0;
+}
+
+-- ---- 05 reclaim: pays the customer D_c
+
+unfoldable pub reclaim : Verdict → Channel → Plan
+reclaim signature ch = record {
+  checks =
+      test 5 (eqb (ch .status) 2)
+      ∷ signed 12 signature
+      ∷ [];
+  channel = become 6 ch;
+  pays = pay (ch .customer .deposit .0) 0;
+}
+
+-- ---- 06 mutual close: pays c and b
+
+-- Check 8 of 06 and 07: c + b = T, as whole numbers.
+abbrev pub sharesAll : ℕ → ℕ → Channel → Bool
+sharesAll c b ch = eqb (c + b) (total ch)
+
+unfoldable pub mutualClose : ℕ → ℕ → Verdict → Verdict → Channel → Plan
+mutualClose c b byMerchant byCustomer ch = record {
+  checks =
+      test 5 (eqb (ch .status) 3)
+      ∷ test 8 (sharesAll c b ch)
+      ∷ signed 11 byMerchant
+      ∷ signed 12 byCustomer
+      ∷ [];
+  channel = become 6 ch;
+  pays = pay c b;
+}
+
+-- ---- 07 customer closes: pays the merchant b now, keeps c and the lock. From status 3 the deadline is not looked at
+
+unfoldable pub customerClose : ℕ → List ℕ → ℕ → ℕ → Verdict → Verdict → Channel → Plan
+customerClose now lock c b byMerchant byCustomer ch = record {
+  checks =
+      test 5 (eqb (ch .status) 3 || eqb (ch .status) 4)
+      ∷ test 8 (sharesAll c b ch)
+      ∷ test 9 (eqb (ch .status) 3 || ltb now (ch .deadline .0))
+      ∷ signed 11 byMerchant
+      ∷ signed 12 byCustomer
+      ∷ [];
+  channel = moved ch 5 (now + ch .delay) c lock;
+  pays = pay 0 b;
+}
+
+-- ---- 08 merchant closes
+
+unfoldable pub merchantClose : ℕ → Verdict → Channel → Plan
+merchantClose now byMerchant ch = record {
+  checks =
+      test 5 (eqb (ch .status) 3)
+      ∷ signed 11 byMerchant
+      ∷ [];
+  channel = moved ch 4 (now + ch .delay) (ch .kept .0) (ch .lock);
+  pays = pay 0 0;
+}
+
+-- ---- 09 dispute: pays the merchant the kept c
+
+unfoldable pub dispute : ℕ → List ℕ → Verdict → Channel → Plan
+dispute now hashed byMerchant ch = record {
+  checks =
+      test 5 (eqb (ch .status) 5)
+      ∷ test 9 (ltb now (ch .deadline .0))
+      ∷ test 10 (same hashed (ch .lock))
+      ∷ signed 11 byMerchant
+      ∷ [];
+  channel = become 6 ch;
+  pays = pay 0 (ch .kept .0);
+}
+
+-- ---- 0A settle: from 4 pays the merchant T, from 5 pays the customer the kept c
+
+unfoldable pub settle : ℕ → Channel → Plan
+settle now ch = record {
+  checks =
+      test 5 (closing ch)
+      ∷ test 9 (leb (ch .deadline .0) now)
+      ∷ [];
+  channel = become 6 ch;
+  pays = cond (eqb (ch .status) 4) (pay 0 (total ch)) (pay (ch .kept .0) 0);
+}

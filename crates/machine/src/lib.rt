@@ -1,0 +1,18 @@
+// What the arbiter's code and definitions speak of: a book of 64 payment channels, and what its calls answer.
+mod answers;
+mod state;
+mod units;
+
+pub use answers::Answer;
+pub use answers::Found;
+pub use answers::Judged;
+pub use answers::Opened;
+pub use answers::Reading;
+pub use answers::Ruled;
+pub use answers::Soonest;
+pub use answers::Stepped;
+pub use state::Book;
+pub use state::Channel;
+pub use state::Party;
+pub use units::Cents;
+pub use units::Seconds;

@@ -1,0 +1,21 @@
+use borrow.Author.Needs.{needs}
+use Rattle.wire.specs.Numbers.{u16At}
+use Rattle.wire.proofs.numbers.u16_at.Statement.{statement}
+use Rattle.wire.proofs.numbers.u16_at.Tie as tie
+
+returns : tie.Need-returns
+unfolding u16At
+returns c = cc
+
+pub u16-at-spec : {M : Type 1} → statement M
+u16-at-spec =
+    tie.close
+    (tie.spec
+    (λ c. search needs)
+    (λ c κs. search needs)
+    (λ c. search needs)
+    (λ c. search needs)
+    (λ c. search needs)
+    (λ c κs. search needs)
+    (λ c. search needs)
+    returns)

@@ -1,0 +1,21 @@
+use borrow.Author.Needs.{needs}
+use Rattle.wire.specs.Numbers.{u64At}
+use Rattle.wire.proofs.numbers.u64_at.Statement.{statement}
+use Rattle.wire.proofs.numbers.u64_at.Tie as tie
+
+returns : tie.Need-returns
+unfolding u64At
+returns c = cc
+
+pub u64-at-spec : {M : Type 1} → statement M
+u64-at-spec =
+    tie.close
+    (tie.spec
+    (λ c κs. search needs)
+    (λ c. search needs)
+    (λ c. search needs)
+    (λ c. search needs)
+    (λ c κs. search needs)
+    (λ c. search needs)
+    (λ c. search needs)
+    returns)
