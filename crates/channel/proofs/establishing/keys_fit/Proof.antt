@@ -6,11 +6,11 @@ use Rattle.channel.proofs.establishing.keys_fit.Tie as tie
 returns : tie.Need-returns
 unfolding keyed
 returns c =
-    let c₂ = c .before .before in
-    let c₄ = c₂ .before .before in
-    let c₆ = c₄ .before .before in
-    let c₈ = c₆ .before .before in
-    rw (c .same-key .ensures, c₈ .u32-at .ensures, c₆ .u32-at2 .ensures, c₄ .u32-at3 .ensures, c₂ .u32-at4 .ensures)
+    let c₁ = c .before in
+    let c₃ = c₁ .before .before in
+    let c₅ = c₃ .before .before in
+    let c₇ = c₅ .before .before in
+    rw (c .same-key .ensures, c₇ .u32-at .ensures, c₅ .u32-at2 .ensures, c₃ .u32-at3 .ensures, c₁ .u32-at4 .ensures)
 
 pub keys-fit-spec : {M : Type 1} → statement M
 keys-fit-spec =

@@ -1,0 +1,2 @@
+-- The parts in which the code takes a step.
+pub mod Parts

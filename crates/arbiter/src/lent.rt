@@ -1,0 +1,51 @@
+// The calls on a lent book: thin entries over the forms by value.
+use crate::next::due_of;
+use crate::opening::opened;
+use crate::readings::read_of;
+use crate::steps::step;
+use machine::Answer;
+use machine::Book;
+use machine::Found;
+use machine::Reading;
+ghost use mathlib.Core.Path.{_≡_};
+ghost use Rattle.machine.specs.Book.{opening, reading};
+ghost use Rattle.machine.specs.Due.{due};
+ghost use Rattle.machine.specs.Real.{realStep};
+
+// Makes any lent book fresh, with the id, and answers 0; an id that is not 16 bytes long gives 2 and keeps every value.
+pub fn open(book: &mut Book, id: &[u8]) -> u8
+    ensures { λ r. ⌜ (r ≡ opening (now (book .entry)) (now (id .entry)) .refusal)
+        × (now (book .exit) ≡ opening (now (book .entry)) (now (id .entry)) .book) ⌝ }
+{
+    let lent = *book;
+    let done = opened(lent, id);
+    *book = done.book;
+    done.refusal
+}
+
+// Carries a command out on the lent book, or refuses it and keeps every value.
+pub fn apply(book: &mut Book, command: &[u8]) -> Answer
+    ensures { λ r. ⌜ (r ≡ realStep (now (book .entry)) (now (command .entry)) .answer)
+        × (now (book .exit) ≡ realStep (now (book .entry)) (now (command .entry)) .book) ⌝ }
+{
+    let lent = *book;
+    let stepped = step(lent, command);
+    *book = stepped.book;
+    stepped.answer
+}
+
+// A reading of channel n.
+pub fn read(book: &Book, n: usize) -> Reading
+    ensures { λ r. ⌜ r ≡ reading (now (book .entry)) n ⌝ }
+{
+    let lent = *book;
+    read_of(lent, n)
+}
+
+// The channel that is due next.
+pub fn due(book: &Book) -> Found
+    ensures { λ r. ⌜ r ≡ due (now (book .entry)) ⌝ }
+{
+    let lent = *book;
+    due_of(lent)
+}

@@ -1,0 +1,53 @@
+// The channel that is due next.
+use crate::soundness::sound;
+use machine::Book;
+use machine::Channel;
+use machine::Found;
+use machine::Seconds;
+use machine::Soonest;
+ghost use mathlib.Core.Path.{_≡_};
+ghost use Rattle.machine.specs.Due.{sooner, soonest, due};
+
+// Channel n, or the soonest of those after it.
+fn sooner_of(n: u8, ch: Channel, rest: Soonest) -> Soonest
+    ensures { λ r. ⌜ r ≡ sooner n ch rest ⌝ }
+{
+    let deadline = ch.deadline;
+    let closing = (ch.status == 4) | (ch.status == 5);
+    if closing & (!rest.some | (deadline.0 <= rest.deadline.0)) {
+        return Soonest {
+            some: true,
+            number: n,
+            deadline,
+        };
+    }
+    rest
+}
+
+fn soonest_of(book: Book) -> Soonest
+    ensures { λ r. ⌜ r ≡ soonest 0 (book .channels) ⌝ }
+{
+    let mut best = Soonest {
+        some: false,
+        number: 0,
+        deadline: Seconds(0),
+    };
+    let mut i: usize = 64;
+    while i > 0 {
+        i -= 1;
+        let ch = book.channels[i];
+        best = sooner_of(i as u8, ch, best);
+    }
+    best
+}
+
+// None exactly when the book is unsound or no channel is closing.
+pub fn due_of(book: Book) -> Found
+    ensures { λ r. ⌜ r ≡ due book ⌝ }
+{
+    let best = soonest_of(book);
+    if sound(book) & best.some {
+        return Found::At(best.number);
+    }
+    Found::Nothing
+}
