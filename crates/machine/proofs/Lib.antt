@@ -1,4 +1,4 @@
--- The third demand and the worked figures, with the laws that they cite.
+-- The third demand, the worked figures and what due says, with the laws that they cite.
 pub mod Laws
 pub mod Judging
 pub mod Reached
@@ -8,3 +8,4 @@ pub mod Moves
 pub mod Facts
 pub mod ThirdDemand
 pub mod WorkedFigures
+pub mod DueSays

@@ -1,9 +1,10 @@
 -- Document 01, "Journal and due list": of the channels in status 4 or 5 the one with the smallest deadline, the lower number where equal.
+use mathlib.Core.Path.{_≡_}
 use mathlib.Core.Bool.{true, false, cond, not, _&&_, _||_}
 use mathlib.Core.List.{List, [], _∷_}
-use Prim.Native.Nat.{ℕ, suc}
+use Prim.Native.Nat.{ℕ, suc, _≤_, _<_}
 use lib.Dec.{leb}
-use Rattle.machine.specs.Book.{seconds, sound, closing}
+use Rattle.machine.specs.Book.{seconds, sound, closing, channel}
 use Rattle.machine.specs.declared.state.Channel.{Channel}
 use Rattle.machine.specs.declared.state.Book.{Book}
 use Rattle.machine.specs.declared.answers.Soonest.{Soonest}
@@ -22,3 +23,15 @@ soonest n (ch ∷ l) = sooner n ch (soonest (suc n) l)
 -- None exactly when the book is unsound or has no such channel.
 unfoldable pub due : Book → Found
 due b = cond (sound b && (soonest 0 (b .channels)) .some) (Found.At ((soonest 0 (b .channels)) .number)) Found.Nothing
+
+-- What due says, channel by channel. The channel n that it names is closing, with the smallest deadline, and the lower number where equal.
+pub record Next (b : Book) (n : ℕ) : Type 0 where
+  pub steady : sound b ≡ true
+  pub closes : closing (channel b n) ≡ true
+  pub least : (m : ℕ) → closing (channel b m) ≡ true → (channel b n) .deadline .0 ≤ (channel b m) .deadline .0
+  pub lower : (m : ℕ) → closing (channel b m) ≡ true → m < n → (channel b n) .deadline .0 < (channel b m) .deadline .0
+
+-- Where it names none, the book is unsound or no channel is closing.
+pub record DueMeans (b : Book) : Type 0 where
+  pub some : (n : ℕ) → due b ≡ Found.At n → Next b n
+  pub none : due b ≡ Found.Nothing → sound b ≡ true → (m : ℕ) → closing (channel b m) ≡ false

@@ -1,7 +1,6 @@
 use mathlib.Core.Path.{_≡_, _∙_, refl}
 use mathlib.Core.Bool.{Bool, true, false, cond, not}
 use Prim.Native.Nat.{ℕ}
-use lib.Dec.{eqb}
 use Rattle.machine.specs.Book.{cents}
 use Rattle.machine.specs.Rules.{pay, settle}
 use Rattle.machine.specs.Machine.{ruling}

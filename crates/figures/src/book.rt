@@ -1,0 +1,65 @@
+// Values written into a book from outside, as whoever lends it may.
+use arbiter::Book;
+use arbiter::Cents;
+use arbiter::Channel;
+use arbiter::Seconds;
+use wire::u64_at;
+
+// A value in a field of a channel; 2 to 7 name the fields. What does not fit its field is left out.
+fn changed(channel: Channel, field: u8, value: u64) -> Channel {
+    let mut after = channel;
+    let cents = Cents(value);
+    let time = Seconds(value);
+    if field == 2 {
+        if value < 256 {
+            after.status = value as u8;
+        }
+    }
+    if field == 3 {
+        if value < 4294967296 {
+            after.delay = value as u32;
+        }
+    }
+    if field == 4 {
+        after.deadline = time;
+    }
+    if field == 5 {
+        after.kept = cents;
+    }
+    if field == 6 {
+        let mut customer = after.customer;
+        customer.deposit = cents;
+        after.customer = customer;
+    }
+    if field == 7 {
+        let mut merchant = after.merchant;
+        merchant.deposit = cents;
+        after.merchant = merchant;
+    }
+    after
+}
+
+// The field, the channel and the value, in ten bytes; 0 is the mark and 1 the clock.
+pub fn overwritten(book: Book, bytes: &[u8]) -> Book {
+    if bytes.len() != 10 {
+        return book;
+    }
+    let field = bytes[0];
+    let n = bytes[1] as usize;
+    let value = u64_at(bytes, 2);
+    let mut after = book;
+    if field == 0 {
+        after.mark = value;
+        return after;
+    }
+    if field == 1 {
+        let clock = Seconds(value);
+        after.clock = clock;
+        return after;
+    }
+    if n < 64 {
+        let ch = after.channels[n];
+        after.channels[n] = changed(ch, field, value);
+    }
+    after
+}

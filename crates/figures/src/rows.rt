@@ -1,0 +1,92 @@
+// A row is a byte that says what it is, two bytes of length, and so many bytes.
+use crate::book::overwritten;
+use crate::print::end_line;
+use crate::print::number;
+use crate::print::print_answer;
+use crate::print::print_due;
+use crate::print::print_reading;
+use arbiter::Book;
+use libc::STDOUT_FILENO;
+use wire::u16_at;
+use wire::wide;
+ghost use Prim.Native.Nat.{_+_, _≤_};
+ghost use lib.ListN.{length};
+
+// An opening, with the row's bytes as the id.
+fn open_row(book: Book, bytes: &[u8]) -> Book {
+    let opened = arbiter::opened(book, bytes);
+    io::write_all(STDOUT_FILENO, b"open");
+    number(wide(opened.refusal) as u64);
+    end_line();
+    opened.book
+}
+
+// The row's bytes as a command.
+fn command_row(book: Book, bytes: &[u8]) -> Book {
+    let stepped = arbiter::step(book, bytes);
+    let answer = stepped.answer;
+    print_answer(answer);
+    stepped.book
+}
+
+// A reading of the channel that two bytes name.
+fn reading_row(book: Book, bytes: &[u8]) {
+    if bytes.len() != 2 {
+        return;
+    }
+    let reading = arbiter::read_of(book, u16_at(bytes, 0) as usize);
+    print_reading(reading);
+}
+
+// What a row makes of the book.
+fn row(book: Book, kind: u8, bytes: &[u8]) -> Book {
+    if kind == 1 {
+        return open_row(book, bytes);
+    }
+    if kind == 2 {
+        return command_row(book, bytes);
+    }
+    if kind == 3 {
+        reading_row(book, bytes);
+        return book;
+    }
+    if kind == 4 {
+        print_due(arbiter::due_of(book));
+        return book;
+    }
+    overwritten(book, bytes)
+}
+
+// Where the row that begins at `at` ends; `at` where no whole row begins there.
+fn row_end(m: &[u8], at: usize) -> usize
+    requires { ⌜ at ≤ length (now m) ⌝ }
+    ensures { λ r. ⌜ r ≤ length (now (m .entry)) ⌝ }
+    ensures { λ r. ⌜ at ≤ r ⌝ }
+{
+    let left = m.len() - at;
+    if left < 3 {
+        return at;
+    }
+    let size = u16_at(m, at + 1) as usize;
+    if left - 3 < size {
+        return at;
+    }
+    at + 3 + size
+}
+
+// Runs every whole row of m, on a book to lend.
+pub fn run(m: &[u8]) {
+    let mut book = arbiter::blank();
+    let mut at: usize = 0;
+    let mut going = true;
+    while going {
+        let end = row_end(m, at);
+        if end < at + 3 {
+            going = false;
+        } else {
+            let next = row(book, m[at], &m[at + 3..end]);
+            book = next;
+            at = end;
+        }
+    }
+}
