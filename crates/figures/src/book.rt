@@ -4,6 +4,7 @@ use arbiter::Cents;
 use arbiter::Channel;
 use arbiter::Seconds;
 use wire::u64_at;
+use wire::wide;
 
 // A value in a field of a channel; 2 to 7 name the fields. What does not fit its field is left out.
 fn changed(channel: Channel, field: u8, value: u64) -> Channel {
@@ -45,7 +46,7 @@ pub fn overwritten(book: Book, bytes: &[u8]) -> Book {
         return book;
     }
     let field = bytes[0];
-    let n = bytes[1] as usize;
+    let n = wide(bytes[1]) as usize;
     let value = u64_at(bytes, 2);
     let mut after = book;
     if field == 0 {

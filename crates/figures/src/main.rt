@@ -1,7 +1,7 @@
 // Runs rows from standard input on one book, and prints what each comes to: openings, commands, readings, due, and values written into
 // the lent book from outside.
 mod book;
-mod print;
+mod lines;
 mod rows;
 
 use libc::STDIN_FILENO;

@@ -1,23 +1,18 @@
 // A row is a byte that says what it is, two bytes of length, and so many bytes.
 use crate::book::overwritten;
-use crate::print::end_line;
-use crate::print::number;
-use crate::print::print_answer;
-use crate::print::print_due;
-use crate::print::print_reading;
+use crate::lines::print_answer;
+use crate::lines::print_due;
+use crate::lines::print_opened;
+use crate::lines::print_reading;
 use arbiter::Book;
-use libc::STDOUT_FILENO;
 use wire::u16_at;
-use wire::wide;
 ghost use Prim.Native.Nat.{_+_, _≤_};
 ghost use lib.ListN.{length};
 
 // An opening, with the row's bytes as the id.
 fn open_row(book: Book, bytes: &[u8]) -> Book {
     let opened = arbiter::opened(book, bytes);
-    io::write_all(STDOUT_FILENO, b"open");
-    number(wide(opened.refusal) as u64);
-    end_line();
+    print_opened(opened.refusal);
     opened.book
 }
 
@@ -78,15 +73,13 @@ fn row_end(m: &[u8], at: usize) -> usize
 pub fn run(m: &[u8]) {
     let mut book = arbiter::blank();
     let mut at: usize = 0;
-    let mut going = true;
-    while going {
+    while at < m.len() {
         let end = row_end(m, at);
-        if end < at + 3 {
-            going = false;
-        } else {
-            let next = row(book, m[at], &m[at + 3..end]);
-            book = next;
-            at = end;
+        if end - at < 3 {
+            return;
         }
+        let next = row(book, m[at], &m[at + 3..end]);
+        book = next;
+        at = end;
     }
 }

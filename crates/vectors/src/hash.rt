@@ -1,9 +1,10 @@
 // SHA-256: by the public hash, by a state fed in parts, and of two parts in one block.
 ghost use mathlib.Core.Path.{_≡_};
 ghost use lib.ListN.{length};
-use crate::print::part;
-use crate::print::print_digest;
-use libc::STDOUT_FILENO;
+use crate::parts::part;
+use print::decimal;
+use print::digest_line;
+use print::text;
 use sha256::Sha256;
 use wire::wide;
 
@@ -23,9 +24,9 @@ fn print_hash(bytes: &[u8]) {
     let answer = sha256::hash(bytes);
     let refusal = answer.refusal;
     let digest = answer.digest;
-    io::print_decimal(STDOUT_FILENO, wide(refusal) as u64);
-    io::write_all(STDOUT_FILENO, b" ");
-    print_digest(digest);
+    decimal(wide(refusal) as u64);
+    text(b" ");
+    digest_line(digest);
 }
 
 // The digest by a state that is fed three parts.
@@ -38,8 +39,8 @@ fn print_parts(m: &[u8]) {
     let last = part(m, half, n);
     let state = Sha256::new().feed(first).feed(second).feed(last);
     if state.n <= 65536 {
-        io::write_all(STDOUT_FILENO, b"  in three parts ");
-        print_digest(state.finish());
+        text(b"  in three parts ");
+        digest_line(state.finish());
     }
 }
 
@@ -49,9 +50,9 @@ fn print_length(m: &[u8], n: usize) {
         return;
     }
     let message = part(m, 0, n);
-    io::write_all(STDOUT_FILENO, b"n=");
-    io::print_decimal(STDOUT_FILENO, n as u64);
-    io::write_all(STDOUT_FILENO, b" ");
+    text(b"n=");
+    decimal(n as u64);
+    text(b" ");
     print_hash(message);
     print_parts(message);
 }
@@ -65,10 +66,10 @@ fn print_pair(m: &[u8], at: usize) {
         return;
     }
     let digest = sha256::hash_pair(part(m, 0, at), part(m, at, 55));
-    io::write_all(STDOUT_FILENO, b"  in two parts, the first of ");
-    io::print_decimal(STDOUT_FILENO, at as u64);
-    io::write_all(STDOUT_FILENO, b" ");
-    print_digest(digest);
+    text(b"  in two parts, the first of ");
+    decimal(at as u64);
+    text(b" ");
+    digest_line(digest);
 }
 
 // Lengths around one block and two, and around the limit.

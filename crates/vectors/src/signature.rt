@@ -2,12 +2,14 @@
 // The first row is of RFC 8554, over a tree of height 5, and is printed stage by stage.
 ghost use Prim.Native.Nat.{_+_, _<_, _≤_};
 ghost use lib.ListN.{length};
-use crate::print::part;
-use crate::print::print_digest;
+use crate::parts::part;
 use libc::STDIN_FILENO;
-use libc::STDOUT_FILENO;
+use print::decimal;
+use print::digest_line;
+use print::text;
 use wire::digest_at;
 use wire::id_at;
+use wire::u16_at;
 use wire::u32_at;
 use wire::wide;
 
@@ -15,14 +17,6 @@ use wire::wide;
 struct Span {
     start: usize,
     end: usize,
-}
-
-// The number that two bytes of m are, the higher first.
-fn two_bytes(m: &[u8], at: usize) -> usize
-    requires { ⌜ at + 2 ≤ length (now m) ⌝ }
-    ensures { λ r. ⌜ r < 65536 ⌝ }
-{
-    (wide(m[at]) * 256 + wide(m[at + 1])) as usize
 }
 
 // The root of a tree of height 5, up the path from a leaf.
@@ -59,25 +53,25 @@ fn print_stages(key: &[u8], message: &[u8], signature: &[u8]) {
     let walked = lms::leaf_key(id, leaf, hash, signature);
     let end = walked.key;
     let top = root(id, leaf, end, signature);
-    io::write_all(STDOUT_FILENO, b"leaf key ");
-    print_digest(end);
-    io::write_all(STDOUT_FILENO, b"steps ");
-    io::print_decimal(STDOUT_FILENO, walked.steps as u64);
-    io::write_all(STDOUT_FILENO, b"\nroot ");
-    print_digest(top);
+    text(b"leaf key ");
+    digest_line(end);
+    text(b"steps ");
+    decimal(walked.steps as u64);
+    text(b"\nroot ");
+    digest_line(top);
 }
 
 // The refusal, the verdict and the steps of a check.
 fn print_check(key: &[u8], message: &[u8], signature: &[u8]) {
     let checked = lms::check(key, message, signature);
-    io::print_decimal(STDOUT_FILENO, wide(checked.refusal) as u64);
+    decimal(wide(checked.refusal) as u64);
     if checked.verdict {
-        io::write_all(STDOUT_FILENO, b" yes ");
+        text(b" yes ");
     } else {
-        io::write_all(STDOUT_FILENO, b" no ");
+        text(b" no ");
     }
-    io::print_decimal(STDOUT_FILENO, checked.steps as u64);
-    io::write_all(STDOUT_FILENO, b"\n");
+    decimal(checked.steps as u64);
+    text(b"\n");
 }
 
 // The field at a place of m.
@@ -92,7 +86,7 @@ fn field(m: &[u8], at: usize) -> Span
     if n - 2 < at {
         return none;
     }
-    let size = two_bytes(m, at);
+    let size = u16_at(m, at) as usize;
     let start = at + 2;
     if n - start < size {
         return none;
@@ -118,14 +112,14 @@ fn print_row(m: &[u8], number: u64, at: usize) -> usize {
         return 0;
     }
     let k = part(m, key.start, key.end);
-    let text = part(m, message.start, message.end);
+    let words = part(m, message.start, message.end);
     let s = part(m, signature.start, signature.end);
     if number == 0 {
-        print_stages(k, text, s);
+        print_stages(k, words, s);
     } else {
-        io::print_decimal(STDOUT_FILENO, number);
-        io::write_all(STDOUT_FILENO, b" ");
-        print_check(k, text, s);
+        decimal(number);
+        text(b" ");
+        print_check(k, words, s);
     }
     signature.end
 }
@@ -150,11 +144,11 @@ fn print_steps(first: u8, other: u8) {
     let mut hash = [other; 32];
     hash[0] = first;
     let sum = wide(first) + 31 * wide(other);
-    io::write_all(STDOUT_FILENO, b"sum ");
-    io::print_decimal(STDOUT_FILENO, sum as u64);
-    io::write_all(STDOUT_FILENO, b" steps ");
-    io::print_decimal(STDOUT_FILENO, lms::step_count(hash) as u64);
-    io::write_all(STDOUT_FILENO, b"\n");
+    text(b"sum ");
+    decimal(sum as u64);
+    text(b" steps ");
+    decimal(lms::step_count(hash) as u64);
+    text(b"\n");
 }
 
 // Every row, and the steps of hashes at the edges.
