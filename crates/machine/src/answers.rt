@@ -5,6 +5,7 @@ use crate::units::Cents;
 use crate::units::Seconds;
 
 // What a command answers: the refusal, or 0; what it paid to each side; the chain steps.
+#[repr(C)]
 pub struct Answer {
     pub refusal: u8,
     pub customer: Cents,
@@ -37,6 +38,7 @@ pub struct Opened {
 }
 
 // What a reading of one channel gives.
+#[repr(C)]
 pub struct Reading {
     pub refusal: u8,
     pub status: u8,

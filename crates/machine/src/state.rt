@@ -3,12 +3,14 @@ use crate::units::Cents;
 use crate::units::Seconds;
 
 // One side of a channel: its key, and the deposit that it agreed to.
+#[repr(C)]
 pub struct Party {
     pub key: [u8; 56],
     pub deposit: Cents,
 }
 
 // The customer is document 01's café, the merchant its bakery. A customer's closing keeps its part and the lock here.
+#[repr(C)]
 pub struct Channel {
     pub status: u8,
     pub customer: Party,
@@ -20,6 +22,7 @@ pub struct Channel {
 }
 
 // The mark says that an opening wrote the book.
+#[repr(C)]
 pub struct Book {
     pub mark: u64,
     pub id: [u8; 16],
