@@ -1,6 +1,6 @@
 // Times the library's hash beside the baselines in one run: ns for a block and for a 55-byte message, and ratios to the unrolled C.
 // Every digest of the run is compared; a difference ends it with status 1.
-#include <stdint.h>
+#include "../include/finaruvom.h"
 #include <stdio.h>
 #include <stdlib.h>
 #include <string.h>
@@ -9,7 +9,6 @@
 #include <openssl/sha.h>
 #endif
 
-uint8_t finaruvom_hash(const uint8_t *bytes, size_t n, uint8_t digest[32]);
 void plain(const uint8_t *m, size_t n, uint8_t out[32]);
 void unrolled(const uint8_t *m, size_t n, uint8_t out[32]);
 

@@ -2,3 +2,4 @@
 pub mod SoundBook
 pub mod Stepping
 pub mod Lending
+pub mod Outcomes

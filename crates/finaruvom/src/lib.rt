@@ -1,7 +1,11 @@
 // What a C or a Rust program calls: the static library libfinaruvom.a.
+use arbiter::Answer;
+use arbiter::Book;
 ghost use mathlib.Core.Path.{_≡_};
 ghost use Rattle.sha256.specs.Answer.{hashAnswer};
 ghost use Rattle.lms.specs.Check.{checkOf};
+ghost use Rattle.machine.specs.Book.{opening};
+ghost use Rattle.machine.specs.Real.{realStep};
 
 // The SHA-256 digest of at most 65,536 bytes, written to digest, and 0; of more, zeros and 2.
 #[no_mangle]
@@ -32,4 +36,28 @@ pub extern "C" fn finaruvom_check(
     *verdict = checked.verdict;
     *steps = checked.steps;
     checked.refusal
+}
+
+// Makes any lent book fresh, with the id, and answers 0; an id that is not 16 bytes long gives 2 and keeps every value.
+#[no_mangle]
+pub extern "C" fn finaruvom_open(book: &mut Book, id: &[u8]) -> u8
+    ensures { λ r. ⌜ (r ≡ opening (now (book .entry)) (now (id .entry)) .refusal)
+        × (now (book .exit) ≡ opening (now (book .entry)) (now (id .entry)) .book) ⌝ }
+{
+    let lent = *book;
+    let done = arbiter::opened(lent, id);
+    *book = done.book;
+    done.refusal
+}
+
+// Carries a command out on the lent book, or refuses it and keeps every value.
+#[no_mangle]
+pub extern "C" fn finaruvom_apply(book: &mut Book, command: &[u8]) -> Answer
+    ensures { λ r. ⌜ (r ≡ realStep (now (book .entry)) (now (command .entry)) .answer)
+        × (now (book .exit) ≡ realStep (now (book .entry)) (now (command .entry)) .book) ⌝ }
+{
+    let lent = *book;
+    let stepped = arbiter::step(lent, command);
+    *book = stepped.book;
+    stepped.answer
 }

@@ -1,0 +1,95 @@
+// Times commands without a signature on a full book, beside the C baseline in one run, and counts the bytes that each copies.
+// Both must leave equal books and answers; a difference ends the run with status 1.
+#include "book.h"
+#include <stdio.h>
+#include <stdlib.h>
+#include <string.h>
+#include <time.h>
+
+enum { COUNT = 200, TRIES = 400 };
+
+// Every call of memcpy from the library comes here, since the linker wraps it.
+void *__real_memcpy(void *to, const void *from, size_t n);
+static size_t copied;
+void *__wrap_memcpy(void *to, const void *from, size_t n) {
+    copied += n;
+    return __real_memcpy(to, from, n);
+}
+
+static struct finaruvom_book full;
+
+static double seconds(void) {
+    struct timespec t;
+    clock_gettime(CLOCK_MONOTONIC, &t);
+    return t.tv_sec + 1e-9 * t.tv_nsec;
+}
+
+typedef struct finaruvom_answer apply(struct finaruvom_book *, const uint8_t *, size_t);
+struct row {
+    const char *name;
+    uint8_t bytes[136];
+    size_t n;
+    uint8_t refusal, status;
+};
+
+// A book whose 64 channels are all in use, in the status that the row wants.
+static void fill(uint8_t status) {
+    static const uint8_t id[16] = {7};
+    if (finaruvom_open(&full, id, 16) != 0)
+        exit(1);
+    for (int i = 0; i < 64; i++)
+        full.channels[i] = (struct finaruvom_channel){
+            .status = status, .customer.deposit = 900, .merchant.deposit = 100, .delay = 3600, .deadline = 0, .kept = 700};
+}
+
+// The time of one command, each on the full book as it was, less the time that putting it back takes.
+static double timed(apply *f, const struct row *row, struct finaruvom_book *books, struct finaruvom_answer *answer) {
+    double best = 1;
+    for (int t = 0; t < TRIES; t++) {
+        for (int k = 0; k < COUNT; k++)
+            books[k % 4] = full;
+        double start = seconds();
+        for (int k = 0; k < COUNT; k++) {
+            *answer = f(&books[k % 4], row->bytes, row->n);
+            books[k % 4].channels[5].status = row->status;
+        }
+        double took = (seconds() - start) / COUNT;
+        if (took < best)
+            best = took;
+    }
+    return best;
+}
+
+static bool same(const struct finaruvom_answer *a, const struct finaruvom_answer *b) {
+    return a->refusal == b->refusal && a->customer == b->customer && a->merchant == b->merchant && a->steps == b->steps;
+}
+
+int main(void) {
+    static const struct row rows[] = {
+        {"01 clock", {1, 0, 0, 0, 0, 0, 0, 3, 232}, 9, 0, 3},
+        {"02 establish", {2, 0, 5, 0, 0, 0, 6, 0, 0, 0, 4, [59] = 0, 0, 0, 6, 0, 0, 0, 4, 1, [121] = 3, 132, [130] = 100}, 135, 0, 0},
+        {"03 fund customer", {3, 0, 5, 0, 0, 0, 0, 0, 0, 3, 132}, 11, 0, 1},
+        {"04 fund merchant", {4, 0, 5, 0, 0, 0, 0, 0, 0, 0, 100}, 11, 0, 2},
+        {"0A settle", {10, 0, 5}, 3, 0, 5},
+        {"refused with 1", {0}, 0, 1, 3},
+        {"refused with 5", {10, 0, 5}, 3, 5, 3},
+        {"refused with 8", {3, 0, 5, 0, 0, 0, 0, 0, 0, 3, 131}, 11, 8, 1},
+    };
+    static struct finaruvom_book books[4], plain[4];
+    printf("%-20s %10s %10s %8s %14s\n", "command", "C, ns", "library", "ratio", "bytes copied");
+    for (size_t i = 0; i < sizeof rows / sizeof rows[0]; i++) {
+        const struct row *row = &rows[i];
+        struct finaruvom_answer a, b;
+        fill(row->status);
+        double c = timed(plain_apply, row, plain, &b);
+        double l = timed(finaruvom_apply, row, books, &a);
+        if (a.refusal != row->refusal || !same(&a, &b) || memcmp(books, plain, sizeof books) != 0) {
+            fprintf(stderr, "%s: the two differ\n", row->name);
+            return 1;
+        }
+        copied = 0;
+        finaruvom_apply(&books[0], row->bytes, row->n);
+        printf("%-20s %10.0f %10.0f %8.1f %14zu\n", row->name, 1e9 * c, 1e9 * l, l / c, copied);
+    }
+    return 0;
+}

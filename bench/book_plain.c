@@ -1,0 +1,103 @@
+// Written from document 01, as a program in C would have it: no copy of the book.
+#include "book.h"
+#include <string.h>
+
+static const uint64_t MOST = INT64_MAX, MARK = 0x6172626974657221;
+
+static uint64_t number(const uint8_t *s, int bytes) {
+    uint64_t x = 0;
+    for (int i = 0; i < bytes; i++)
+        x = x << 8 | s[i];
+    return x;
+}
+
+static bool sound_channel(const struct finaruvom_channel *ch) {
+    if (ch->status == 0)
+        return true;
+    uint64_t c = ch->customer.deposit, b = ch->merchant.deposit;
+    return ch->status <= 6 && c <= MOST && b <= MOST - c && ch->delay >= 3600 && ch->delay <= 2592000 && (ch->status != 5 || ch->kept <= c + b);
+}
+
+static bool sound(const struct finaruvom_book *book) {
+    bool ok = book->mark == MARK && book->clock <= MOST;
+    for (int i = 0; i < 64; i++)
+        ok &= sound_channel(&book->channels[i]);
+    return ok;
+}
+
+static bool typed(const uint8_t *key) {
+    return number(key, 4) == 6 && number(key + 4, 4) == 4;
+}
+
+static uint8_t establish(struct finaruvom_channel *ch, const uint8_t *s) {
+    uint64_t c = number(s + 115, 8), b = number(s + 123, 8), delay = number(s + 131, 4);
+    if (ch->status != 0)
+        return 5;
+    if (!typed(s + 3) || !typed(s + 59) || memcmp(s + 3, s + 59, 56) == 0)
+        return 6;
+    if (delay != 0 && (delay < 3600 || delay > 2592000))
+        return 7;
+    if (c == 0 || c > MOST || b > MOST - c)
+        return 8;
+    memcpy(ch->customer.key, s + 3, 56);
+    memcpy(ch->merchant.key, s + 59, 56);
+    ch->customer.deposit = c;
+    ch->merchant.deposit = b;
+    ch->delay = delay ? delay : 86400;
+    ch->status = 1;
+    return 0;
+}
+
+static uint8_t fund(struct finaruvom_channel *ch, uint8_t op, uint64_t cents) {
+    if (ch->status != (op == 3 ? 1 : 2))
+        return 5;
+    if (cents != (op == 3 ? ch->customer.deposit : ch->merchant.deposit))
+        return 8;
+    ch->status = op == 3 && ch->merchant.deposit != 0 ? 2 : 3;
+    return 0;
+}
+
+static struct finaruvom_answer refuse(uint8_t refusal) {
+    return (struct finaruvom_answer){refusal, 0, 0, 0};
+}
+
+static struct finaruvom_answer settle(struct finaruvom_channel *ch, uint64_t clock) {
+    if (ch->status != 4 && ch->status != 5)
+        return refuse(5);
+    if (clock < ch->deadline)
+        return refuse(9);
+    struct finaruvom_answer answer = {0, 0, 0, 0};
+    if (ch->status == 4)
+        answer.merchant = ch->customer.deposit + ch->merchant.deposit;
+    else
+        answer.customer = ch->kept;
+    ch->status = 6;
+    return answer;
+}
+
+struct finaruvom_answer plain_apply(struct finaruvom_book *book, const uint8_t *command, size_t n) {
+    static const size_t sizes[] = {0, 9, 135, 11, 11, 1455, 2923, 2955, 1455, 1487, 3};
+    if (!sound(book))
+        return refuse(99);
+    if (n == 0 || command[0] == 0 || command[0] > 10)
+        return refuse(1);
+    uint8_t op = command[0];
+    if (n != sizes[op])
+        return refuse(2);
+    if (op == 1) {
+        uint64_t t = number(command + 1, 8);
+        if (t < book->clock || t > MOST)
+            return refuse(3);
+        book->clock = t;
+        return refuse(0);
+    }
+    uint64_t place = number(command + 1, 2);
+    if (place >= 64)
+        return refuse(4);
+    struct finaruvom_channel *ch = &book->channels[place];
+    if (op == 2)
+        return refuse(establish(ch, command));
+    if (op == 3 || op == 4)
+        return refuse(fund(ch, op, number(command + 3, 8)));
+    return op == 10 ? settle(ch, book->clock) : refuse(5);
+}

@@ -1,0 +1,46 @@
+-- The structs that the forms by value return, as a book and an answer.
+use mathlib.Core.Path.{ap}
+use mathlib.Core.List.{[], _∷_}
+use mir.Syntax.{w8, tyInt}
+use mir.Val.{vint}
+use denote.Plain.{uint-lawful, uint-makes}
+use denote.Builtin.{u8}
+use denote.Steps.{only}
+use denote.Struct.Laws as LL
+use Rattle.machine.proofs.answers.Answer as N
+use Rattle.machine.proofs.answers.Answer.Laws as N′
+use Rattle.machine.proofs.answers.Stepped as T
+use Rattle.machine.proofs.answers.Stepped.Laws as T′
+use Rattle.machine.proofs.answers.Opened as O
+use Rattle.machine.proofs.answers.Opened.Laws as O′
+use Rattle.arbiter.proofs.Lending.{Outcome}
+
+abbrev pub stepped : Outcome T.the-row N.the-row
+stepped = record {
+  book = λ r. r .book;
+  answer = λ r. r .answer;
+  name = T.struct .name;
+  ty = N′.mir;
+  val = LL.val N.the-type N′.the-laws;
+  spells = λ r w is. ap only (LL.tells T.the-type T′.the-laws r (w ∷ []) is);
+  book-is = λ r w is. LL.owed T.the-type T′.the-laws r _ is .0;
+  answer-is = λ r w is. LL.owed T.the-type T′.the-laws r _ is .1 .0;
+  typed = λ 𝓤 H A W r w is. LL.lawful T.the-type T′.the-laws 𝓤 H A W .typed r _ is .0;
+  answer-typed = λ 𝓤 H A W x is. LL.lawful N.the-type N′.the-laws 𝓤 H A W .typed x _ is .0;
+  makes = λ 𝓤 H A W. LL.makes N.the-type N′.the-plain 𝓤 H A;
+}
+
+abbrev pub opened : Outcome O.the-row u8
+opened = record {
+  book = λ r. r .book;
+  answer = λ r. r .refusal;
+  name = O.struct .name;
+  ty = tyInt w8;
+  val = vint w8;
+  spells = λ r w is. ap only (LL.tells O.the-type O′.the-laws r (w ∷ []) is);
+  book-is = λ r w is. LL.owed O.the-type O′.the-laws r _ is .0;
+  answer-is = λ r w is. LL.owed O.the-type O′.the-laws r _ is .1 .0;
+  typed = λ 𝓤 H A W r w is. LL.lawful O.the-type O′.the-laws 𝓤 H A W .typed r _ is .0;
+  answer-typed = λ 𝓤 H A W x is. uint-lawful 𝓤 H A W w8 .typed x _ is .0;
+  makes = λ 𝓤 H A W. uint-makes 𝓤 H A W w8;
+}
