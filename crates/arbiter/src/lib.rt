@@ -25,4 +25,5 @@ pub use opening::blank;
 pub use opening::opened;
 pub use readings::read_of;
 pub use soundness::sound;
+pub use steps::size_of;
 pub use steps::step;
