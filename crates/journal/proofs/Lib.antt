@@ -1,0 +1,2 @@
+-- A run is a list of commands.
+pub mod Journals
