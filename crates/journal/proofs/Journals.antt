@@ -20,23 +20,23 @@ use Rattle.journal.specs.Divided.{divided, joined, told, RunMeans, Journ
 -- ---- one turn, by whether a command goes
 
 module _ (b : Book) (cs : List ℕ) (l : Line) (ls : List Line) where
-  abbrev x : Next
+  abbrev pub x : Next
   x = nextOf cs (length (l ∷ ls))
 
   abbrev s : List ℕ
   s = take (x .size) cs
 
-  abbrev rest : List ℕ
+  abbrev pub rest : List ℕ
   rest = drop (x .size) cs
 
-  abbrev next : Book
+  abbrev pub next : Book
   next = (realStep b s) .book
 
   abbrev line : Line
   line = record { answer = (realStep b s) .answer }
 
   -- What a run and the commands are, for either answer of the test.
-  abbrev ran : Bool → Done
+  abbrev pub ran : Bool → Done
   ran y = cond y (runs.after (line ∷ []) 1 (x .size) (runOf next rest ls)) (stopped b (l ∷ ls) (x .cause))
 
   abbrev commands : Bool → List (List ℕ)

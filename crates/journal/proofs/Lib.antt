@@ -1,2 +1,3 @@
--- A run is a list of commands.
+-- A run is a list of commands, and how far it goes.
 pub mod Journals
+pub mod Bounds

@@ -7,7 +7,7 @@ use lib.ListN.{length, take, drop}
 use Rattle.sha256.specs.Digest.{sha256}
 use Rattle.machine.specs.Book.{opening}
 use Rattle.machine.specs.Real.{lmsVerdict}
-use Rattle.machine.specs.Ledger.{Entry, strings, Standing, after, Accounted}
+use Rattle.machine.specs.Ledger.{Entry, strings, after, Accounted}
 use Rattle.machine.specs.declared.state.Book.{Book}
 use Rattle.journal.specs.declared.lines.Line.{Line}
 use Rattle.journal.specs.Runs.{nextOf, runOf}
