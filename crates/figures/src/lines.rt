@@ -2,15 +2,18 @@
 use arbiter::Answer;
 use arbiter::Found;
 use arbiter::Reading;
-use print::decimal;
-use print::digest_line;
-use print::text;
+use libc::STDOUT_FILENO;
+use wire::u64_at;
 use wire::wide;
+
+fn text(bytes: &[u8]) {
+    io::write_all(STDOUT_FILENO, bytes);
+}
 
 // A number after a blank.
 fn number(n: u64) {
     text(b" ");
-    decimal(n);
+    io::print_decimal(STDOUT_FILENO, n);
 }
 
 pub fn print_opened(refusal: u8) {
@@ -29,6 +32,14 @@ pub fn print_answer(answer: Answer) {
     text(b"\n");
 }
 
+// A lock as four numbers of eight bytes.
+fn print_lock(lock: [u8; 32]) {
+    number(u64_at(&lock, 0));
+    number(u64_at(&lock, 8));
+    number(u64_at(&lock, 16));
+    number(u64_at(&lock, 24));
+}
+
 // Refusal, status, total, held, deadline, the kept part and the lock.
 pub fn print_reading(reading: Reading) {
     text(b"reading");
@@ -38,9 +49,9 @@ pub fn print_reading(reading: Reading) {
     number(reading.held.0);
     number(reading.deadline.0);
     number(reading.kept.0);
-    text(b" ");
     let lock = reading.lock;
-    digest_line(lock);
+    print_lock(lock);
+    text(b"\n");
 }
 
 pub fn print_due(found: Found) {

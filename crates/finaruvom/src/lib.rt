@@ -1,11 +1,15 @@
 // What a C or a Rust program calls: the static library libfinaruvom.a.
 use arbiter::Answer;
 use arbiter::Book;
+use arbiter::Found;
+use arbiter::Reading;
 ghost use mathlib.Core.Path.{_≡_};
 ghost use Rattle.sha256.specs.Answer.{hashAnswer};
 ghost use Rattle.lms.specs.Check.{checkOf};
-ghost use Rattle.machine.specs.Book.{opening};
+ghost use Rattle.machine.specs.Book.{opening, reading};
+ghost use Rattle.machine.specs.Due.{due};
 ghost use Rattle.machine.specs.Real.{realStep};
+ghost use Rattle.finaruvom.specs.Fields.{fieldsOf};
 
 // The SHA-256 digest of at most 65,536 bytes, written to digest, and 0; of more, zeros and 2.
 #[no_mangle]
@@ -60,4 +64,43 @@ pub extern "C" fn finaruvom_apply(book: &mut Book, command: &[u8]) -> Answer
     let stepped = arbiter::step(lent, command);
     *book = stepped.book;
     stepped.answer
+}
+
+// A reading of channel n: 99 and zeros of an unsound book, 4 and zeros for n from 64 on.
+#[no_mangle]
+pub extern "C" fn finaruvom_read(book: &Book, n: usize) -> Reading
+    ensures { λ r. ⌜ r ≡ reading (now (book .entry)) n ⌝ }
+{
+    let lent = *book;
+    arbiter::read_of(lent, n)
+}
+
+// The channel that is due next; 0 where there is none.
+#[repr(C)]
+pub struct NextDue {
+    pub some: bool,
+    pub channel: u8,
+}
+
+fn next_due(book: Book) -> NextDue
+    ensures { λ r. ⌜ r ≡ fieldsOf (due book) ⌝ }
+{
+    match arbiter::due_of(book) {
+        Found::At(n) => NextDue {
+            some: true,
+            channel: n,
+        },
+        Found::Nothing => NextDue {
+            some: false,
+            channel: 0,
+        },
+    }
+}
+
+#[no_mangle]
+pub extern "C" fn finaruvom_due(book: &Book) -> NextDue
+    ensures { λ r. ⌜ r ≡ fieldsOf (due (now (book .entry))) ⌝ }
+{
+    let lent = *book;
+    next_due(lent)
 }

@@ -1,10 +1,9 @@
 // SHA-256: by the public hash, by a state fed in parts, and of two parts in one block.
 ghost use mathlib.Core.Path.{_≡_};
 ghost use lib.ListN.{length};
-use crate::parts::part;
-use print::decimal;
-use print::digest_line;
-use print::text;
+use crate::print::part;
+use crate::print::print_digest;
+use libc::STDOUT_FILENO;
 use sha256::Sha256;
 use wire::wide;
 
@@ -24,9 +23,9 @@ fn print_hash(bytes: &[u8]) {
     let answer = sha256::hash(bytes);
     let refusal = answer.refusal;
     let digest = answer.digest;
-    decimal(wide(refusal) as u64);
-    text(b" ");
-    digest_line(digest);
+    io::print_decimal(STDOUT_FILENO, wide(refusal) as u64);
+    io::write_all(STDOUT_FILENO, b" ");
+    print_digest(digest);
 }
 
 // The digest by a state that is fed three parts.
@@ -39,8 +38,8 @@ fn print_parts(m: &[u8]) {
     let last = part(m, half, n);
     let state = Sha256::new().feed(first).feed(second).feed(last);
     if state.n <= 65536 {
-        text(b"  in three parts ");
-        digest_line(state.finish());
+        io::write_all(STDOUT_FILENO, b"  in three parts ");
+        print_digest(state.finish());
     }
 }
 
@@ -50,9 +49,9 @@ fn print_length(m: &[u8], n: usize) {
         return;
     }
     let message = part(m, 0, n);
-    text(b"n=");
-    decimal(n as u64);
-    text(b" ");
+    io::write_all(STDOUT_FILENO, b"n=");
+    io::print_decimal(STDOUT_FILENO, n as u64);
+    io::write_all(STDOUT_FILENO, b" ");
     print_hash(message);
     print_parts(message);
 }
@@ -66,10 +65,10 @@ fn print_pair(m: &[u8], at: usize) {
         return;
     }
     let digest = sha256::hash_pair(part(m, 0, at), part(m, at, 55));
-    text(b"  in two parts, the first of ");
-    decimal(at as u64);
-    text(b" ");
-    digest_line(digest);
+    io::write_all(STDOUT_FILENO, b"  in two parts, the first of ");
+    io::print_decimal(STDOUT_FILENO, at as u64);
+    io::write_all(STDOUT_FILENO, b" ");
+    print_digest(digest);
 }
 
 // Lengths around one block and two, and around the limit.

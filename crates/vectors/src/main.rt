@@ -1,6 +1,6 @@
 // Prints what published messages and signatures come to, and messages and hashes at the edges of blocks, limits and checksums.
 mod hash;
-mod parts;
+mod print;
 mod signature;
 
 fn main() {

@@ -2,11 +2,10 @@
 // The first row is of RFC 8554, over a tree of height 5, and is printed stage by stage.
 ghost use Prim.Native.Nat.{_+_, _<_, _≤_};
 ghost use lib.ListN.{length};
-use crate::parts::part;
+use crate::print::part;
+use crate::print::print_digest;
 use libc::STDIN_FILENO;
-use print::decimal;
-use print::digest_line;
-use print::text;
+use libc::STDOUT_FILENO;
 use wire::digest_at;
 use wire::id_at;
 use wire::u16_at;
@@ -53,25 +52,25 @@ fn print_stages(key: &[u8], message: &[u8], signature: &[u8]) {
     let walked = lms::leaf_key(id, leaf, hash, signature);
     let end = walked.key;
     let top = root(id, leaf, end, signature);
-    text(b"leaf key ");
-    digest_line(end);
-    text(b"steps ");
-    decimal(walked.steps as u64);
-    text(b"\nroot ");
-    digest_line(top);
+    io::write_all(STDOUT_FILENO, b"leaf key ");
+    print_digest(end);
+    io::write_all(STDOUT_FILENO, b"steps ");
+    io::print_decimal(STDOUT_FILENO, walked.steps as u64);
+    io::write_all(STDOUT_FILENO, b"\nroot ");
+    print_digest(top);
 }
 
 // The refusal, the verdict and the steps of a check.
 fn print_check(key: &[u8], message: &[u8], signature: &[u8]) {
     let checked = lms::check(key, message, signature);
-    decimal(wide(checked.refusal) as u64);
+    io::print_decimal(STDOUT_FILENO, wide(checked.refusal) as u64);
     if checked.verdict {
-        text(b" yes ");
+        io::write_all(STDOUT_FILENO, b" yes ");
     } else {
-        text(b" no ");
+        io::write_all(STDOUT_FILENO, b" no ");
     }
-    decimal(checked.steps as u64);
-    text(b"\n");
+    io::print_decimal(STDOUT_FILENO, checked.steps as u64);
+    io::write_all(STDOUT_FILENO, b"\n");
 }
 
 // The field at a place of m.
@@ -112,14 +111,14 @@ fn print_row(m: &[u8], number: u64, at: usize) -> usize {
         return 0;
     }
     let k = part(m, key.start, key.end);
-    let words = part(m, message.start, message.end);
+    let text = part(m, message.start, message.end);
     let s = part(m, signature.start, signature.end);
     if number == 0 {
-        print_stages(k, words, s);
+        print_stages(k, text, s);
     } else {
-        decimal(number);
-        text(b" ");
-        print_check(k, words, s);
+        io::print_decimal(STDOUT_FILENO, number);
+        io::write_all(STDOUT_FILENO, b" ");
+        print_check(k, text, s);
     }
     signature.end
 }
@@ -144,11 +143,11 @@ fn print_steps(first: u8, other: u8) {
     let mut hash = [other; 32];
     hash[0] = first;
     let sum = wide(first) + 31 * wide(other);
-    text(b"sum ");
-    decimal(sum as u64);
-    text(b" steps ");
-    decimal(lms::step_count(hash) as u64);
-    text(b"\n");
+    io::write_all(STDOUT_FILENO, b"sum ");
+    io::print_decimal(STDOUT_FILENO, sum as u64);
+    io::write_all(STDOUT_FILENO, b" steps ");
+    io::print_decimal(STDOUT_FILENO, lms::step_count(hash) as u64);
+    io::write_all(STDOUT_FILENO, b"\n");
 }
 
 // Every row, and the steps of hashes at the edges.
