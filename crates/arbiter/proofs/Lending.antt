@@ -63,7 +63,7 @@ module _ {M : Type 1} {𝓤 : URA M} {H : Heap 𝓤} {A : Atoms 𝓤} {K : Type 
   owns-book t h was = owned t B.the-row (Is B.the-row) (LL.makes B.the-type B′.the-plain 𝓤 H A) h (bv h ∷ []) was
 
   -- the machine value of the book that lies behind a reference is written out
-  spells-book : K → (q : Share) (h : Book) (vs : List Val) (b o : ℕ) → (IsBook h → Seq K W (‵ (cellAt q (B.the-row .mir) (bv h ∷ []) b o) ∷ ‵ (B.the-row .own h (bv h ∷ [])) ∷ Γ) G)
+  pub spells-book : K → (q : Share) (h : Book) (vs : List Val) (b o : ℕ) → (IsBook h → Seq K W (‵ (cellAt q (B.the-row .mir) (bv h ∷ []) b o) ∷ ‵ (B.the-row .own h (bv h ∷ [])) ∷ Γ) G)
       → Seq K W (‵ (cellAt q (B.the-row .mir) vs b o) ∷ ‵ (B.the-row .own h vs) ∷ Γ) G
   spells-book t q h vs b o k =
       spelt t B.the-row (Is B.the-row) (shows 𝓤 H A B.the-row) (LL.vals B.the-type B′.the-laws) (LL.tells B.the-type B′.the-laws) q h vs b o $

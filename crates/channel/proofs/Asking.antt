@@ -1,6 +1,5 @@
 -- One check, as the code makes it.
 use mathlib.Core.Path.{_≡_, ap, _∙_}
-use mathlib.Core.Bool.{true, false}
 use mathlib.Core.List.{List}
 use Prim.Native.Nat.{ℕ, _+_, _≤_}
 use native.Mathlib.Omega.{arith}
@@ -8,7 +7,7 @@ use borrow.Author.Tests.{eq-eqb, ne-eqb}
 use Rattle.lms.specs.declared.Checked.{Checked}
 use Rattle.lms.specs.Check.{checkOf}
 use Rattle.lms.proofs.StepLaw.{stepLaw}
-use Rattle.machine.specs.Checks.{Check, signed, made, ask}
+use Rattle.machine.specs.Checks.{Check, test, signed, made, ask}
 use Rattle.machine.specs.Real.{lmsVerdict}
 use Rattle.machine.specs.declared.answers.Judged.{Judged}
 
@@ -21,14 +20,12 @@ pub ask-made : (j : Judged) (k : Check) (r : Judged) → j .refusal ≡ 0 → r 
 unfolding ask
 ask-made j k r h e = e ∙ rw (eq-eqb _ _ h)
 
--- A signature check that was made, by what it said.
+-- A signature check that was made.
 module _ (v : Checked) (key message signature : List ℕ) (e : v ≡ checkOf key message signature) where
   pub steps-most : v .steps ≤ 8415
   steps-most = omega (arith, ap (λ (x : Checked). x .steps) e, stepLaw .check key message signature)
 
-  module _ (j : Judged) (r : ℕ) (h : j .refusal ≡ 0) where
-    pub ask-good : v .verdict ≡ true → record { refusal = j .refusal; steps = j .steps + v .steps } ≡ ask j (signed r (lmsVerdict key message signature))
-    ask-good g = ask-made _ _ _ h (rw (← e, g))
-
-    pub ask-bad : v .verdict ≡ false → record { refusal = r; steps = j .steps + v .steps } ≡ ask j (signed r (lmsVerdict key message signature))
-    ask-bad g = ask-made _ _ _ h (rw (← e, g))
+  -- Its steps are counted, and then its verdict is a test.
+  pub ask-signed : (j : Judged) (r : ℕ) → j .refusal ≡ 0 → ask (record { refusal = j .refusal; steps = j .steps + v .steps }) (test r (v .verdict)) ≡ ask j (signed r (lmsVerdict key message signature))
+  unfolding ask
+  ask-signed j r h = rw (eq-eqb _ _ h, ← e)

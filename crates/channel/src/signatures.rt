@@ -1,4 +1,5 @@
 // Checks 11 and 12: is a signature good? It is checked only where all checks before said yes.
+use crate::checks::tested;
 use lms::check;
 use machine::Judged;
 use wire::copy_into;
@@ -41,12 +42,9 @@ pub fn sealed(
     }
     let buffer = signed_message(id, command, end);
     let checked = check(&key, &buffer[..end + 16], &command[at..at + 1452]);
-    let steps = j.steps + checked.steps;
-    if checked.verdict {
-        return Judged {
-            refusal: j.refusal,
-            steps,
-        };
-    }
-    Judged { refusal, steps }
+    let counted = Judged {
+        refusal: j.refusal,
+        steps: j.steps + checked.steps,
+    };
+    tested(counted, refusal, checked.verdict)
 }

@@ -1,11 +1,11 @@
 use Prim.Native.Nat.{_+_}
-use mathlib.Core.Path.{_≡_, sym}
+use mathlib.Core.Path.{_≡_, sym, _∙_}
 use native.Mathlib.Omega.{arith}
 use native.Mathlib.Nat.{add-sub-cancel-left}
 use lib.ListN.{length}
 use lib.Seq.{length-take-le}
 use Rattle.machine.specs.Machine.{verdict}
-use Rattle.channel.proofs.Asking.{ask-stop, ask-good, ask-bad, steps-most}
+use Rattle.channel.proofs.Asking.{ask-stop, ask-signed, steps-most}
 use borrow.Author.Needs.{needs}
 use Rattle.channel.proofs.signatures.sealed.Statement.{statement}
 use Rattle.channel.proofs.signatures.sealed.Tie as tie
@@ -20,28 +20,16 @@ slice-aggregate-check-2 c =
     let h : length (c₂ .signed-message .result) ≡ 67 = search needs in
     sym (length-take-le (c₆ .args .end + 16) (c₂ .signed-message .result) (omega arith))
 
-add-steps : tie.Need-add-steps
-add-steps c = omega (arith, steps-most _ _ _ _ (c .before .before .check .ensures))
+add-t24 : tie.Need-add-t24
+add-t24 c = omega (arith, steps-most _ _ _ _ (c .before .before .check .ensures))
 
 returns-2 : tie.Need-returns-2
 unfolding verdict
 returns-2 c =
     let c₃ = c .before .before .before in
     let c₇ = c₃ .before .before .before .before in
-    let c₈ = c₇ .before in
-    let v = c₃ .check in
-    let e = rw (c₇ .signed-message .ensures, add-sub-cancel-left) at v .ensures in
-    (ask-good _ _ _ _ e _ _ (c₈ .if1 .left) (c .if2 .taken), omega (arith, steps-most _ _ _ _ e))
-
-returns-3 : tie.Need-returns-3
-unfolding verdict
-returns-3 c =
-    let c₃ = c .before .before .before in
-    let c₇ = c₃ .before .before .before .before in
-    let c₈ = c₇ .before in
-    let v = c₃ .check in
-    let e = rw (c₇ .signed-message .ensures, add-sub-cancel-left) at v .ensures in
-    (ask-bad _ _ _ _ e _ _ (c₈ .if1 .left) (c .if2 .left), omega (arith, steps-most _ _ _ _ e))
+    let e = rw (c₇ .signed-message .ensures, add-sub-cancel-left) at (c₃ .check .ensures) in
+    (c .tested .ensures .0 ∙ ask-signed _ _ _ _ e _ _ (c₇ .before .if1 .left), omega (arith, c .tested .ensures .1, steps-most _ _ _ _ e))
 
 pub sealed-spec : {M : Type 1} → statement M
 sealed-spec =
@@ -58,6 +46,6 @@ sealed-spec =
     (λ c. search needs)
     (λ c. search needs)
     (λ c κs. search needs)
-    add-steps
-    returns-2
-    returns-3)
+    add-t24
+    (λ c κs. search needs)
+    returns-2)
