@@ -4,16 +4,12 @@ mod statement;
 mod text;
 
 use crate::output::print;
-use crate::statement::print_statement;
+use crate::statement::print_input;
 use libc::STDIN_FILENO;
 
 fn main() {
     let mut input = io::large_buffer();
     let n = io::read_full(STDIN_FILENO, &mut input);
-    if n < 16 {
-        print(b"no book\n");
-        return;
-    }
     if n == 65536 {
         let mut more = [0u8; 1];
         if io::read_full(STDIN_FILENO, &mut more) != 0 {
@@ -21,6 +17,5 @@ fn main() {
             return;
         }
     }
-    let opened = arbiter::opened(arbiter::blank(), &input[..16]);
-    print_statement(opened.book, &input[16..n]);
+    print_input(&input[..n]);
 }

@@ -1,4 +1,5 @@
 // The statement of a journal.
+use crate::output::print;
 use crate::output::print_first;
 use crate::text::put_end;
 use crate::text::put_lines;
@@ -12,7 +13,9 @@ ghost use Prim.Native.Nat.{_≤_};
 ghost use lib.ListN.{length};
 
 // Lines to write to.
-fn no_lines() -> [Line; 64] {
+fn no_lines() -> [Line; 64]
+    ensures { λ r. ⌜ length r ≡ 64 ⌝ }
+{
     let answer = Answer {
         refusal: 0,
         customer: Cents(0),
@@ -45,7 +48,7 @@ fn print_end(used: usize, cause: u8) {
 }
 
 // Runs the journal, and again while lines are short; a closed output ends it.
-pub fn print_statement(book: Book, commands: &[u8])
+fn print_statement(book: Book, commands: &[u8])
     requires { ⌜ length (now commands) ≤ 65536 ⌝ }
 {
     let mut now = book;
@@ -67,4 +70,16 @@ pub fn print_statement(book: Book, commands: &[u8])
         let after = whole.book;
         now = after;
     }
+}
+
+// The id and the journal: without an id there is no book.
+pub fn print_input(input: &[u8])
+    requires { ⌜ length (now input) ≤ 65536 ⌝ }
+{
+    if input.len() < 16 {
+        print(b"no book\n");
+        return;
+    }
+    let opened = arbiter::opened(arbiter::blank(), &input[0..16]);
+    print_statement(opened.book, &input[16..]);
 }
