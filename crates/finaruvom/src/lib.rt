@@ -3,12 +3,15 @@ use arbiter::Answer;
 use arbiter::Book;
 use arbiter::Found;
 use arbiter::Reading;
+use journal::Line;
+use journal::Ran;
 ghost use mathlib.Core.Path.{_≡_};
 ghost use Rattle.sha256.specs.Answer.{hashAnswer};
 ghost use Rattle.lms.specs.Check.{checkOf};
 ghost use Rattle.machine.specs.Book.{opening, reading};
 ghost use Rattle.machine.specs.Due.{due};
 ghost use Rattle.machine.specs.Real.{realStep};
+ghost use Rattle.journal.specs.Runs.{runOf, ranOf};
 ghost use Rattle.finaruvom.specs.Fields.{fieldsOf};
 
 // The SHA-256 digest of at most 65,536 bytes, written to digest, and 0; of more, zeros and 2.
@@ -103,4 +106,14 @@ pub extern "C" fn finaruvom_due(book: &Book) -> NextDue
 {
     let lent = *book;
     next_due(lent)
+}
+
+// Runs a journal's commands on the lent book and writes a line for each; later lines keep their content.
+#[no_mangle]
+pub extern "C" fn finaruvom_run(book: &mut Book, commands: &[u8], lines: &mut [Line]) -> Ran
+    ensures { λ r. ⌜ (r ≡ ranOf (runOf (now (book .entry)) (now (commands .entry)) (now (lines .entry))))
+        × (now (book .exit) ≡ runOf (now (book .entry)) (now (commands .entry)) (now (lines .entry)) .book)
+        × (now (lines .exit) ≡ runOf (now (book .entry)) (now (commands .entry)) (now (lines .entry)) .lines) ⌝ }
+{
+    journal::run(book, commands, lines)
 }
