@@ -15,7 +15,7 @@ use prog.Model.{Model}
 use prog.Routine.{Routine, Env}
 use prog.Wp.{Heap, Calls, Loops, WpFn, Closed}
 use ghost.Atoms.{Atoms, sem}
-use contract.Lifetimes.{AllOutlive}
+use contract.Lifetimes.{Lfts, AllOutlive}
 use contract.Monad.{fact}
 use contract.Running.{GhostRules, Running, givenOf, tables, tablesOf}
 use types.Kit.{Goal, Soaks, Seq, Step, Given, Item, ‵, raw, ⋆, _⊛_, some, later, _$_, _∵_, !, qed, by, move, keep, drop, use1, use2, split, join, pick, rewrite, fsplit, fsplit3, fjoin, fjoin3, feqI, suffices, frame, await, done}
@@ -29,15 +29,15 @@ use denote.Memory.{mem, cellAt, partAt, pointee}
 use denote.Builtin.{u8}
 use denote.Ref.{RefT, MutRef, now, ptr-vals, mut-tells}
 use denote.Slice.{sliceVal, sliceTy, ShrSlice, slice-vals, shr-slice-tells, shr-slice-lawful, shr-slice-copy}
-use denote.Signature.{plain, mutRefTo, shrSliceOf}
+use denote.Signature.{typeAt, plain, mutRefTo, shrSliceOf}
 use denote.Steps.{looks, opens, closes, owned, peeks, heard, nothing}
 use denote.Struct.Steps.{spelt}
 use denote.Struct.Laws as LL
-use denote.Triple.Entry.{onEntry}
+use denote.Triple.Entry.{alive, onEntry}
 use denote.Triple.Spec.{tripleOf}
 use denote.Triple.Statement.{Contract, Triple}
 use denote.Triple.Call.{calls-at}
-use denote.Triple.Clauses.{Ended, Clauses, closing, ensured, lasts}
+use denote.Triple.Clauses.{Ended, Clauses, AtExit, atExit, closing, ensured, lasts}
 use denote.Triple.Table.{entered, cited}
 use denote.Triple.Walked.{says, Stays, stay-ref, stay-none-slice, walkOf, AllGo, goes-ref, goes-none-slice, Walks, ends-at, walked, walk-meets}
 use denote.Exit.{yes}
@@ -45,39 +45,54 @@ use Rattle.machine.specs.declared.state.Book.{Book}
 use Rattle.machine.proofs.state.Book as B
 use Rattle.machine.proofs.state.Book.Laws as B′
 
--- a book's machine value
+-- A book's machine value.
 abbrev pub bv : Book → Val
 bv = LL.val B.the-type B′.the-laws
 
--- it stands for the book
+-- It stands for the book.
 abbrev pub IsBook : Book → Type 0
 IsBook h = Is B.the-row h (bv h ∷ [])
 
--- what stands for a book is of its machine type
+-- What stands for a book is of its machine type.
 pub book-typed : {M : Type 1} (𝓤 : URA M) (H : Heap 𝓤) (A : Atoms 𝓤) → Given 𝓤 H A → (h : Book) → IsBook h → T (hasTy B′.mir (bv h)) × WT (bv h)
 book-typed 𝓤 H A W h was = LL.lawful B.the-type B′.the-laws 𝓤 H A W .typed h _ was .0
 
 module _ {M : Type 1} {𝓤 : URA M} {H : Heap 𝓤} {A : Atoms 𝓤} {K : Type 0} {W : Given 𝓤 H A} {Γ : List (Item 𝓤)} {G : Goal 𝓤 H} where
-  -- what a book owns is had for nothing
+  -- What a book owns is had for nothing.
   pub owns-book : K → (h : Book) → IsBook h → Step K W (‵ (B.the-row .own h (bv h ∷ [])) ∷ Γ) G Γ G
   owns-book t h was = owned t B.the-row (Is B.the-row) (LL.makes B.the-type B′.the-plain 𝓤 H A) h (bv h ∷ []) was
 
-  -- the machine value of the book that lies behind a reference is written out
+  -- The machine value of the book that lies behind a reference is written out.
   pub spells-book : K → (q : Share) (h : Book) (vs : List Val) (b o : ℕ) → (IsBook h → Seq K W (‵ (cellAt q (B.the-row .mir) (bv h ∷ []) b o) ∷ ‵ (B.the-row .own h (bv h ∷ [])) ∷ Γ) G)
       → Seq K W (‵ (cellAt q (B.the-row .mir) vs b o) ∷ ‵ (B.the-row .own h vs) ∷ Γ) G
   spells-book t q h vs b o k =
       spelt t B.the-row (Is B.the-row) (shows 𝓤 H A B.the-row) (LL.vals B.the-type B′.the-laws) (LL.tells B.the-type B′.the-laws) q h vs b o $
       move t (1 ∷ []) $ peeks t B.the-row (Is B.the-row) (shows 𝓤 H A B.the-row) h (bv h ∷ []) (λ was. move t (1 ∷ 0 ∷ []) $ k was)
 
--- a `&Book` is looked into
+-- What a function returns.
+abbrev Result : (E : Ended) → Lfts (E .signature .lifetimes) → RattleType
+Result E κs = typeAt (E .signature .result) κs
+
 module _ {M : Type 1} {𝓤 : URA M} {H : Heap 𝓤} {A : Atoms 𝓤} {K : Type 0} {W : Given 𝓤 H A} {Γ : List (Item 𝓤)} {G : Goal 𝓤 H} where
+  -- A `&Book` is looked into.
   pub looks-book : K → Soaks G → {κ : Lft} {q : Share} (h : Book) (b o : ℕ)
       → ((q′ : Share) → IsBook h → Seq K W (‵ (cellAt q′ (B.the-row .mir) (bv h ∷ []) b o) ∷ ‵ (B.the-row .own h (bv h ∷ [])) ∷ ‵ (fobor κ q (partAt B.the-row q′ h b o)) ∷ ‵ (fshr-bor κ (λ s. partAt B.the-row s h b o)) ∷ Γ) G)
       → Seq K W (‵ (fshr-bor κ (λ s. partAt B.the-row s h b o)) ∷ ‵ (flft κ q) ∷ Γ) G
   looks-book t z h b o k =
       looks t z B.the-row (Is B.the-row) (shows 𝓤 H A B.the-row) (LL.vals B.the-type B′.the-laws) (LL.tells B.the-type B′.the-laws) (LL.copy B.the-type B′.the-copy 𝓤 H A W) h b o (λ q′ vs. spells-book t q′ h vs b o (k q′))
 
--- a function that calls one other meets its contract, by a walk of its MIR that knows the other's
+  -- A callee has returned: what its contract says of the result, and what stands for that.
+  pub answered : K → Soaks G → (E : Ended) (c : Clauses 𝓤 E) (y : tripleOf 𝓤 H A (E .signature) (closing 𝓤 H A E c) .Ghost) (w : Val) (φ : Result E (y .0 .0) .Denot → Type 0)
+      → ((r : Result E (y .0 .0) .Denot) (e : AtExit E (y .0 .0)) → ent 𝓤 (c (y .0 .0) (y .0 .3) .ensures (y .1) r e) (fact 𝓤 (φ r)))
+      → ((r : Result E (y .0 .0) .Denot) → φ r → Is (Result E (y .0 .0)) r (w ∷ []) → Seq K W (‵ (Result E (y .0 .0) .own r (w ∷ [])) ∷ raw (alive 𝓤 H A (E .signature) (y .0 .0) (y .0 .1)) ∷ Γ) G)
+      → Seq K W (raw (tripleOf 𝓤 H A (E .signature) (closing 𝓤 H A E c) .post y w) ∷ Γ) G
+  answered t z E c y w φ told k =
+      let R = Result E (y .0 .0) in
+      use1 W (later (some (λ (r : R .Denot). (raw (alive 𝓤 H A (E .signature) (y .0 .0) (y .0 .1)) ⊛ ‵ (R .own r (w ∷ []))) ⊛ raw (ensured 𝓤 H A E c (y .0 .0) (y .0 .3) (y .1) r)))) (id⊢ 𝓤 _) $ await t z $ pick t (λ r.
+      split t $ move t (1 ∷ []) $ use1 W (raw (fact 𝓤 (φ r))) (exE 𝓤 _ (λ ws. via 𝓤 _ (snd∗ 𝓤 (sem 𝓤 H A (lasts E (y .0 .0) (y .0 .3) ws)) _) (told r (atExit E (y .0 .0) (y .0 .3) ws)))) $
+      heard t (φ r) (λ e. split t $ move t (1 ∷ []) $ peeks t R (Is R) (shows 𝓤 H A R) r (w ∷ []) (k r e)))
+
+-- A function that calls one other meets its contract, by a walk of its MIR that knows the other's.
 module _ {M : Type 1} (𝓤 : URA M) (H : Heap 𝓤) (𝓜 : Model 𝓤 H) (𝓖 : GhostRules 𝓤 H) (𝓡 : Running 𝓤 H 𝓜) (E : Ended) (hs : Stays (E .signature .params) (E .kept)) (c : Clauses 𝓤 E) where
   abbrev W : Given 𝓤 H (𝓖 .A)
   W = givenOf 𝓤 H 𝓜 𝓖
@@ -91,7 +106,7 @@ module _ {M : Type 1} (𝓤 : URA M) (H : Heap 𝓤) (𝓜 : Model 𝓤 H) (𝓖
       entered 𝓤 H (tripleOf 𝓤 H (𝓖 .A) (E .signature) (closing 𝓤 H (𝓖 .A) E c)) (tables 𝓤 H 𝓜 𝓡 env .C) (tables 𝓤 H 𝓜 𝓡 env .Λ) key f closed
       (walk-meets 𝓤 H (𝓖 .A) E hs W goes c (WpFn 𝓤 H (𝓣 .C) (𝓣 .Λ) f) (WpFn-mono 𝓤 H (W .laws) 𝓣 f) (walks (𝓣 .C) (𝓣 .Λ) (fmOf 𝓤 H (W .laws) 𝓣) (cited 𝓤 H D 𝓜 𝓡 env callee r means met)))
 
--- a struct S of a book and an answer R, as a form by value returns it: its parts, and what stands for them
+-- A struct S of a book and an answer R, as a form by value returns it: its parts, and what stands for them.
 pub record Outcome (S R : RattleType) : Type 2 where
   pub book : S .Denot → Book
   pub answer : S .Denot → R .Denot
@@ -105,13 +120,13 @@ pub record Outcome (S R : RattleType) : Type 2 where
   pub answer-typed : {M : Type 1} (𝓤 : URA M) (H : Heap 𝓤) (A : Atoms 𝓤) → Given 𝓤 H A → (x : R .Denot) → Is R x (val x ∷ []) → T (hasTy ty (val x)) × WT (val x)
   pub makes : {M : Type 1} (𝓤 : URA M) (H : Heap 𝓤) (A : Atoms 𝓤) → Given 𝓤 H A → Makes 𝓤 H A R (Is R)
 
--- a call that lends a book and a slice of bytes to a form by value, and writes the book that it returns over the lent one
+-- A call that lends a book and a slice of bytes to a form by value, and writes the book that it returns over the lent one.
 module _ {S R : RattleType} (O : Outcome S R) (f : Book → List ℕ → S .Denot) (callee : Name) where
-  -- the struct's machine type
+  -- The struct's machine type.
   abbrev σ : Ty
   σ = tyStruct (O .name) (tcons B′.mir (tcons (O .ty) tnil))
 
-  -- the form by value: its contract
+  -- The form by value: its contract.
   abbrev by-value : Ended
   by-value = record {
     signature = record { lifetimes = 1; outlives = []; params = plain (λ _. B.the-row) ∷ shrSliceOf (0 ∷ []) tt (plain (λ _. u8)) ∷ []; result = plain (λ _. S) };
@@ -124,7 +139,7 @@ module _ {S R : RattleType} (O : Outcome S R) (f : Book → List ℕ → S .Deno
   abbrev ByValue : {M : Type 1} (𝓤 : URA M) (H : Heap 𝓤) (A : Atoms 𝓤) → Contract 𝓤
   ByValue 𝓤 H A = tripleOf 𝓤 H A (by-value .signature) (closing 𝓤 H A by-value (by-value-says 𝓤))
 
-  -- the call on a lent book: its contract and its code
+  -- The call on a lent book: its contract and its code.
   abbrev lent : Ended
   lent = record {
     signature = record { lifetimes = 2; outlives = []; params = mutRefTo (0 ∷ []) tt (plain (λ _. B.the-row)) ∷ shrSliceOf (1 ∷ []) tt (plain (λ _. u8)) ∷ []; result = plain (λ _. R) };
@@ -157,7 +172,7 @@ module _ {S R : RattleType} (O : Outcome S R) (f : Book → List ℕ → S .Deno
     abbrev x : RefT Book × (RefT (List ℕ) × Unit {0})
     x = (record { ptr = (b, o); name = γ; now = h }, (s, tt))
 
-    -- the slice's machine value
+    -- The slice's machine value.
     abbrev sv : Val
     sv = sliceVal (s .ptr) (length (s .now))
 
@@ -167,7 +182,7 @@ module _ {S R : RattleType} (O : Outcome S R) (f : Book → List ℕ → S .Deno
     abbrev Post : Val → SProp 𝓤
     Post = walkOf 𝓤 H A lent stayed (lent-says 𝓤) .post (((κ, (κ′, tt)), (q, (q′, tt)), bounds, x, at), tt)
 
-    -- what the slice owns
+    -- What the slice owns.
     abbrev Own : Fml
     Own = ShrSlice (named 1) κ′ u8 .own s (sv ∷ [])
 
@@ -177,9 +192,6 @@ module _ {S R : RattleType} (O : Outcome S R) (f : Book → List ℕ → S .Deno
     goes-in : IsBook h → ent 𝓤 (⋆ 𝓤 H A (‵ Own ∷ (‵ (flft κ′ q′) ⊛ ‵ ftrue) ∷ [])) (ByValue 𝓤 H A .pre to-callee)
     goes-in was =
         qed W (‵ Own ∷ (‵ (flft κ′ q′) ⊛ ‵ ftrue) ∷ []) ∵ nothing ! $ move ! (1 ∷ 0 ∷ []) $ fjoin ! $ owns-book ! h was $ fjoin ! $ move ! (1 ∷ 0 ∷ []) $ join ! $ frame ! $ done !
-
-    said : (r : S .Denot) → ent 𝓤 (ensured 𝓤 H A by-value (by-value-says 𝓤) (κ′, tt) (h, (s, tt)) tt r) (fact 𝓤 (r ≡ f h (now s)))
-    said r = exE 𝓤 _ (λ ws. snd∗ 𝓤 (sem 𝓤 H A (lasts by-value (κ′, tt) (h, (s, tt)) ws)) (fact 𝓤 (r ≡ f h (now s))))
 
     exits : (r : S .Denot) → r ≡ f h (now s) → Is R (O .answer r) (O .val (O .answer r) ∷ [])
         → ent 𝓤 (⋆ 𝓤 H A (‵ (fobs γ (B.the-row .coded .code (O .book r))) ∷ ‵ (fbor κ (Body (mem B.the-row) b o γ)) ∷ ‵ (flft κ q) ∷ (‵ (flft κ′ q′) ⊛ ‵ ftrue) ∷ ‵ Own ∷ [])) (Post (O .val (O .answer r)))
@@ -195,28 +207,26 @@ module _ {S R : RattleType} (O : Outcome S R) (f : Book → List ℕ → S .Deno
       walk p =
           qed W ((‵ (flft κ q) ⊛ ‵ (flft κ′ q′) ⊛ ‵ ftrue) ∷ ‵ (owns (MutRef (named 0) κ B.the-row ∷ ShrSlice (named 1) κ′ u8 ∷ []) x at) ∷ []) ∵ enter ! C Λ lent-code (vptr b o ∷ sv ∷ []) _ $
           alloc1 ! (λ l₀. alloc1 ! (λ l₁. alloc1 ! (λ l₂. alloc1 ! (λ l₃. alloc1 ! (λ l₄. alloc0 ! $ params1 ! $ pass1 ! (init ! 6 refl (tt, tt)) $ pass1 ! (init ! 4 refl (shr-slice-lawful 𝓤 H A W (named 1) κ′ u8 .typed s (sv ∷ []) p .0)) $ pass0 ! $
-          -- the borrow is opened, and the book's machine value is written out
+          -- The borrow is opened, and the book's machine value is written out.
           move ! (11 ∷ []) $ fsplit ! $ fsplit3 ! $ drop ! $ move ! (13 ∷ []) $ split ! $ move ! (2 ∷ 3 ∷ 0 ∷ []) $
           opens ! tt B.the-row {h = h} b o (λ vs. spells-book ! fullShare h vs b o (λ was.
-          -- [the book's cell; what a Book owns; the open borrow; obs; auth; the other token; what the slice owns, ∗ true; _4; …; _3; …; _2; …; _1; …; room for _0; …]
+          -- The context is [the book's cell; what a Book owns; the open borrow; obs; auth; the other token; what the slice owns, ∗ true; _4; …; _3; …; _2; …; _1; …; room for _0; …].
           assigns ! (of-opd ! (load ! (from ! (hop ! (look ! 13 refl) (stop !))) (look-raw ! 0 refl))) (from ! (stop !)) (init ! 9 refl (book-typed 𝓤 H A W h was)) $
-          -- the slice is had twice, and one goes to the callee
+          -- The slice is had twice, and one goes to the callee.
           move ! (6 ∷ []) $ fsplit ! $ use1 W (‵ Own ⊛ ‵ Own) (shr-slice-copy 𝓤 H A W (named 1) κ′ u8 .twice s (sv ∷ [])) $ split ! $ move ! (0 ∷ 8 ∷ []) $
           use2 W (raw (ByValue 𝓤 H A .pre to-callee)) (goes-in was) $
           calls-at ! fm (ByValue 𝓤 H A) known to-callee (and-then ! (load ! (from ! (stop !)) (look ! 10 refl)) (and-then ! (load ! (from ! (stop !)) (look ! 12 refl)) (no-more !))) (λ w.
-          use1 W (later (some (λ (r : S .Denot). ((‵ (flft κ′ q′) ⊛ ‵ ftrue) ⊛ ‵ (S .own r (w ∷ []))) ⊛ raw (ensured 𝓤 H A by-value (by-value-says 𝓤) (κ′, tt) (h, (s, tt)) tt r)))) (id⊢ 𝓤 _) $ await ! tt $ pick ! (λ r.
-          split ! $ move ! (1 ∷ []) $ use1 W (raw (fact 𝓤 (r ≡ f h (now s)))) (said r) $ heard ! (r ≡ f h (now s)) (λ e. split ! $ move ! (1 ∷ []) $
-          -- [what the result owns; the other token; what the slice owns; true; the book's cell; what a Book owns; the open borrow; obs; auth; room for _4; …; _3; …; _2; …; _1; …; room for _0; …]
-          peeks ! S (Is S) (shows 𝓤 H A S) r (w ∷ []) (λ is.
+          answered ! tt by-value (by-value-says 𝓤) to-callee w (λ r. r ≡ f h (now s)) (λ r e. id⊢ 𝓤 (fact 𝓤 (r ≡ f h (now s)))) (λ r e is.
+          -- The context is [what the result owns; the other token; what the slice owns; true; the book's cell; what a Book owns; the open borrow; obs; auth; room for _4; …; _3; …; _2; …; _1; …; room for _0; …].
           land ! (from ! (stop !)) (init ! 9 refl (O .typed 𝓤 H A W r w is)) $ rewrite ! 9 (λ (u : Val). ‵ (fat fullShare σ l₄ 0 u)) (O .spells r w is) refl $
           assigns ! (of-opd ! (load ! (from ! (fld ! refl (stop !))) (look-in ! 9 (sub ! 0 refl (whole !))))) (from ! (hop ! (look ! 15 refl) (stop !))) (store-raw ! 4 refl (book-typed 𝓤 H A W (O .book r) (O .book-is r w is))) $
           assigns ! (of-opd ! (load ! (from ! (fld ! refl (stop !))) (look-in ! 9 (sub ! 1 refl (whole !))))) (from ! (stop !)) (init ! 17 refl (O .answer-typed 𝓤 H A W (O .answer r) (O .answer-is r w is))) $
-          -- the borrow is closed at the new book
+          -- The borrow is closed at the new book.
           move ! (4 ∷ 6 ∷ 7 ∷ 8 ∷ []) $ owns-book ! (O .book r) (O .book-is r w is) $ move ! (1 ∷ 0 ∷ []) $ closes ! tt B.the-row (O .book r) (bv (O .book r) ∷ []) b o $
-          -- [obs; the borrow; the token; what the result owns; the other token; what the slice owns; true; what the old Book owned; _4; …; _3; …; _2; …; _1; …; _0; …]
+          -- The context is [obs; the borrow; the token; what the result owns; the other token; what the slice owns; true; what the old Book owned; _4; …; _3; …; _2; …; _1; …; _0; …].
           returns ! (look ! 16 refl) $ forget ! 8 refl $ forget ! 10 refl $ forget ! 12 refl $ forget ! 14 refl $ forget ! 16 refl $
           move ! (16 ∷ 17 ∷ []) $ free1 ! $ move ! (14 ∷ 15 ∷ []) $ free1 ! $ move ! (12 ∷ 13 ∷ []) $ free1 ! $ move ! (10 ∷ 11 ∷ []) $ free1 ! $ move ! (8 ∷ 9 ∷ []) $ free1 ! $ free0 ! $
-          keep ! (0 ∷ 1 ∷ 2 ∷ 4 ∷ 5 ∷ []) $ by ! (exits r e (O .answer-is r w is)))))))))))))
+          keep ! (0 ∷ 1 ∷ 2 ∷ 4 ∷ 5 ∷ []) $ by ! (exits r e (O .answer-is r w is)))))))))))
 
   module _ {M : Type 1} (𝓤 : URA M) (H : Heap 𝓤) (A : Atoms 𝓤) (W : Given 𝓤 H A) where
     walks : (C : Calls 𝓤 H) (Λ : Loops 𝓤 H) → FmC 𝓤 H (W .laws) C → Triple 𝓤 (C callee) (ByValue 𝓤 H A) → Walks 𝓤 H A lent stayed (WpFn 𝓤 H C Λ lent-code) (lent-says 𝓤)
@@ -226,7 +236,7 @@ module _ {S R : RattleType} (O : Outcome S R) (f : Book → List ℕ → S .Deno
     goes : AllGo 𝓤 H A W 2 (lent .signature .params) (lent .kept) stayed
     goes = (goes-ref 𝓤 H A W 2 0 tt (plain (λ _. B.the-row)), (goes-none-slice 𝓤 H A W 2 (1 ∷ []) tt (plain (λ _. u8)) yes, tt))
 
-  -- it meets its contract where the form by value meets its own
+  -- It meets its contract where the form by value meets its own.
   module _ {M : Type 1} (𝓤 : URA M) (H : Heap 𝓤) (𝓜 : Model 𝓤 H) (𝓖 : GhostRules 𝓤 H) (𝓡 : Running 𝓤 H 𝓜) (env : Env) where
     pub lent-meets : (key : Name) → Closed 𝓤 H (tables 𝓤 H 𝓜 𝓡 env .C) (tables 𝓤 H 𝓜 𝓡 env .Λ) key lent-code
         → (r : Routine) → env callee ≡ r → Triple 𝓤 (𝓡 .run r) (ByValue 𝓤 H (𝓖 .A)) → Triple 𝓤 (tables 𝓤 H 𝓜 𝓡 env .C key) (tripleOf 𝓤 H (𝓖 .A) (lent .signature) (closing 𝓤 H (𝓖 .A) lent (lent-says 𝓤)))

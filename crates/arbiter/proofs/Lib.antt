@@ -2,4 +2,5 @@
 pub mod SoundBook
 pub mod Stepping
 pub mod Lending
+pub mod Looking
 pub mod Outcomes

@@ -1,4 +1,4 @@
--- The structs that the forms by value return, as a book and an answer.
+-- What the forms by value return: a struct of a book and an answer, or a result alone.
 use mathlib.Core.Path.{ap}
 use mathlib.Core.List.{[], _∷_}
 use mir.Syntax.{w8, tyInt}
@@ -7,13 +7,19 @@ use denote.Plain.{uint-lawful, uint-makes}
 use denote.Builtin.{u8}
 use denote.Steps.{only}
 use denote.Struct.Laws as LL
+use denote.Enum.Laws as EL
 use Rattle.machine.proofs.answers.Answer as N
 use Rattle.machine.proofs.answers.Answer.Laws as N′
 use Rattle.machine.proofs.answers.Stepped as T
 use Rattle.machine.proofs.answers.Stepped.Laws as T′
 use Rattle.machine.proofs.answers.Opened as O
 use Rattle.machine.proofs.answers.Opened.Laws as O′
+use Rattle.machine.proofs.answers.Reading as R
+use Rattle.machine.proofs.answers.Reading.Laws as R′
+use Rattle.machine.proofs.answers.Found as F
+use Rattle.machine.proofs.answers.Found.Laws as F′
 use Rattle.arbiter.proofs.Lending.{Outcome}
+use Rattle.arbiter.proofs.Looking.{Returned}
 
 abbrev pub stepped : Outcome T.the-row N.the-row
 stepped = record {
@@ -44,3 +50,9 @@ opened = record {
   answer-typed = λ 𝓤 H A W x is. uint-lawful 𝓤 H A W w8 .typed x _ is .0;
   makes = λ 𝓤 H A W. uint-makes 𝓤 H A W w8;
 }
+
+abbrev pub read : Returned R.the-row
+read = record { ty = R′.mir; typed = λ 𝓤 H A W r w is. LL.lawful R.the-type R′.the-laws 𝓤 H A W .typed r _ is .0 }
+
+abbrev pub found : Returned F.the-row
+found = record { ty = F′.mir; typed = λ 𝓤 H A W r w is. EL.lawful F.the-type F′.the-laws 𝓤 H A W tt .typed r _ is .0 }
