@@ -1,0 +1,98 @@
+//! Commands on a book with all channels in use.
+use crate::timing::{best, row};
+use differential::bridge::to_oracle;
+use differential::plan::Plan;
+use differential::wallet::Wallet;
+use finaruvom::raw::{Channel, Party};
+use finaruvom::Book;
+use oracle::digest;
+
+const ID: [u8; 16] = [9; 16];
+const CLOCK: u64 = 1_000;
+/// The channel that the commands name, the last one to be looked at.
+const N: u16 = 63;
+/// The kinds of command, each with the status and the deadline of its channel.
+const ROWS: [(u8, u8, u64); 11] = [
+    (0x01, 3, 0),
+    (0x02, 0, 0),
+    (0x03, 1, 0),
+    (0x04, 2, 0),
+    (0x05, 2, 0),
+    (0x06, 3, 0),
+    (0x07, 3, 0),
+    (0x08, 3, 0),
+    (0x09, 5, CLOCK + 1),
+    (0x0a, 4, CLOCK),
+    (0x0a, 5, CLOCK),
+];
+
+/// Times each kind of command accepted, and two refusals.
+pub fn commands() {
+    let mut wallet = Wallet::default();
+    for (opcode, status, deadline) in ROWS {
+        let book = book(&wallet, status, deadline);
+        let command = command(&mut wallet, opcode);
+        assert_eq!(book.clone().apply(&command).refusal, 0);
+        time(
+            &format!("{opcode:02X} accepted in status {status}"),
+            &book,
+            &command,
+        );
+    }
+    let settle = command(&mut wallet, 0x0a);
+    time("0A refused with 5", &book(&wallet, 3, 0), &settle);
+    time("0A refused with 99", &book(&wallet, 7, 0), &settle);
+}
+
+fn time(name: &str, book: &Book, command: &[u8]) {
+    let same = to_oracle(book.as_raw());
+    let library = best(|| book.clone(), |book| book.apply(command));
+    let oracle = best(|| same.clone(), |book| oracle::apply(book, command));
+    row(name, library, oracle);
+}
+
+/// A book whose channels are closing, but for the one named.
+pub fn book(wallet: &Wallet, status: u8, deadline: u64) -> Book {
+    let party = |party, deposit| Party {
+        key: wallet.key(party),
+        deposit,
+    };
+    let closing = Channel {
+        status: 5,
+        customer: party(0, 900),
+        merchant: party(1, 100),
+        delay: 3_600,
+        deadline: CLOCK + 3_600,
+        kept: 700,
+        lock: digest(&wallet.secrets()[0]),
+    };
+    let opened = Book::open(&ID).expect("16 bytes are an id");
+    let mut raw = *opened.as_raw();
+    raw.clock = CLOCK;
+    raw.channels = [closing; 64];
+    let named = &mut raw.channels[usize::from(N)];
+    (named.status, named.deadline) = (status, deadline);
+    Book::from_raw(raw)
+}
+
+/// A command of this kind that the book accepts.
+fn command(wallet: &mut Wallet, opcode: u8) -> Vec<u8> {
+    let numbers = match opcode {
+        0x01 => [CLOCK, 0],
+        0x04 => [100, 0],
+        0x06 | 0x07 => [400, 600],
+        _ => [900, 100],
+    };
+    let secret = wallet.secrets()[0];
+    let plan = Plan {
+        opcode,
+        n: N,
+        numbers,
+        keys: [0, 1].map(|party| wallet.key(party)),
+        delay: 3_600,
+        string: secret,
+        signers: [1, 0],
+        signed: (opcode, ID, N),
+    };
+    plan.write(|party, message| wallet.sign(party, message))
+}

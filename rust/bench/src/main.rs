@@ -1,0 +1,17 @@
+//! Times the library beside the oracle in one run: microseconds, the shortest of many tries.
+mod checks;
+mod commands;
+mod journals;
+mod timing;
+
+fn main() {
+    println!(
+        "{:<44} {:>12} {:>12} {:>8}",
+        "microseconds", "library", "oracle", "ratio"
+    );
+    checks::hashes();
+    checks::checks();
+    checks::leaf_keys();
+    commands::commands();
+    journals::journals();
+}

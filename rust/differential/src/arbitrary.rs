@@ -1,0 +1,139 @@
+//! Books with any values, biased to edges.
+use crate::bridge::mark;
+use crate::rng::Rng;
+use crate::wallet::Wallet;
+use finaruvom::raw::{Book, Channel, Party};
+use oracle::{digest, LARGEST, LONGEST_DELAY, SHORTEST_DELAY};
+
+const DELAYS: [u32; 8] = [
+    0,
+    SHORTEST_DELAY - 1,
+    SHORTEST_DELAY,
+    SHORTEST_DELAY + 1,
+    86_400,
+    LONGEST_DELAY,
+    LONGEST_DELAY + 1,
+    u32::MAX,
+];
+
+/// A book with any values in all fields.
+pub fn wild_book(rng: &mut Rng, wallet: &Wallet) -> Book {
+    let clock = rng.edge();
+    let channel = std::array::from_fn(|_| wild_channel(rng, wallet, clock));
+    Book {
+        mark: if rng.one_in(2) { mark() } else { rng.edge() },
+        id: rng.array(),
+        clock,
+        channels: channel,
+    }
+}
+
+/// A sound book.
+pub fn sound_book(rng: &mut Rng, wallet: &Wallet) -> Book {
+    let clock = match rng.below(4) {
+        0 => rng.edge().min(LARGEST),
+        1 => LARGEST,
+        _ => 1_000_000 + rng.number() % 1_000_000,
+    };
+    let channels = std::array::from_fn(|_| sound_channel(rng, wallet, clock));
+    Book {
+        mark: mark(),
+        id: [rng.pick(&[0, 0xff]); 16],
+        clock,
+        channels,
+    }
+}
+
+/// A sound book, of which one or two values were then changed; it may still be sound.
+pub fn touched_book(rng: &mut Rng, wallet: &Wallet) -> Book {
+    let mut book = sound_book(rng, wallet);
+    for _ in 0..1 + rng.below(2) {
+        let at = rng.below(64);
+        match rng.below(8) {
+            0 => book.mark ^= 1 << rng.below(64),
+            1 => book.clock = rng.edge(),
+            _ => touch(rng, &mut book.channels[at]),
+        }
+    }
+    book
+}
+
+/// Changes one value of a channel.
+fn touch(rng: &mut Rng, channel: &mut Channel) {
+    let total = channel
+        .customer
+        .deposit
+        .wrapping_add(channel.merchant.deposit);
+    match rng.below(6) {
+        0 => channel.status = rng.pick(&[5, 7, 8, 255]),
+        1 => channel.delay = rng.pick(&DELAYS),
+        2 => channel.customer.deposit = rng.edge(),
+        3 => channel.merchant.deposit = rng.edge(),
+        4 => channel.merchant.deposit = 0u64.wrapping_sub(channel.customer.deposit),
+        _ => channel.kept = rng.pick(&[total, total.wrapping_add(1), u64::MAX]),
+    }
+}
+
+fn wild_channel(rng: &mut Rng, wallet: &Wallet, clock: u64) -> Channel {
+    Channel {
+        status: rng.pick(&[0, 1, 2, 3, 4, 5, 6, 7, 255]),
+        customer: party(rng, wallet),
+        merchant: party(rng, wallet),
+        delay: rng.pick(&DELAYS),
+        deadline: deadline(rng, clock),
+        kept: rng.edge(),
+        lock: lock(rng, wallet),
+    }
+}
+
+/// A channel as a sound book has it: wild if unused, else with its limits kept.
+fn sound_channel(rng: &mut Rng, wallet: &Wallet, clock: u64) -> Channel {
+    let mut channel = wild_channel(rng, wallet, clock);
+    channel.status = rng.pick(&[0, 1, 2, 3, 3, 4, 4, 5, 5, 6]);
+    if channel.status != 0 {
+        channel.delay = channel.delay.clamp(SHORTEST_DELAY, LONGEST_DELAY);
+        channel.customer.deposit = channel.customer.deposit.min(LARGEST);
+        let room = LARGEST - channel.customer.deposit;
+        channel.merchant.deposit = channel.merchant.deposit.min(room);
+        if channel.status == 5 {
+            let total = channel.customer.deposit + channel.merchant.deposit;
+            channel.kept = channel.kept.min(total);
+        }
+    }
+    channel
+}
+
+/// A key that can sign, or any bytes, and a deposit.
+fn party(rng: &mut Rng, wallet: &Wallet) -> Party {
+    Party {
+        key: match rng.below(16) {
+            0 => rng.array(),
+            _ => wallet.key(rng.below(Wallet::PARTIES)),
+        },
+        deposit: match rng.below(4) {
+            0 => rng.edge(),
+            1 => 0,
+            _ => rng.pick(&[1, 100, 900, 1 << 62]),
+        },
+    }
+}
+
+/// A deadline around the clock, or at an edge.
+fn deadline(rng: &mut Rng, clock: u64) -> u64 {
+    match rng.below(6) {
+        0 => rng.edge(),
+        1 => clock.wrapping_sub(1),
+        2 => clock,
+        3 => clock.wrapping_add(3_600),
+        _ => clock.wrapping_add(1),
+    }
+}
+
+/// A lock with a known secret, zeros, or any bytes.
+fn lock(rng: &mut Rng, wallet: &Wallet) -> [u8; 32] {
+    match rng.below(8) {
+        0 => [0; 32],
+        1 => rng.array(),
+        _ => digest(&rng.pick(wallet.secrets())),
+    }
+}

@@ -1,0 +1,18 @@
+//! Compares the library with the oracle on cases that depend on a seed alone.
+
+mod arbitrary;
+pub mod bridge;
+mod fence;
+mod maker;
+mod options;
+mod pair;
+mod parts;
+pub mod plan;
+mod rng;
+mod run;
+mod spoil;
+mod tally;
+pub mod wallet;
+
+pub use options::{Limit, Options, USAGE};
+pub use run::run;

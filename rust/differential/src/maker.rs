@@ -1,0 +1,181 @@
+//! Commands for a book whose state is known.
+use crate::plan::Plan;
+use crate::rng::Rng;
+use crate::spoil;
+use crate::wallet::Wallet;
+use oracle::{digest, Book, Channel, SIGNATURE};
+
+/// Deposits that are agreed often, so that signatures come back.
+const DEPOSITS: [[u64; 2]; 8] = [
+    [900, 100],
+    [900, 0],
+    [1, 0],
+    [1, 1],
+    [2, (1 << 63) - 3],
+    [(1 << 63) - 1, 0],
+    [(1 << 63) - 2, 1],
+    [1 << 62, (1 << 62) - 1],
+];
+const DELAYS: [u32; 5] = [0, 3_600, 3_601, 86_400, 2_592_000];
+
+/// Makes commands for some channels of a book.
+pub struct Maker<'a> {
+    pub rng: &'a mut Rng,
+    wallet: &'a mut Wallet,
+    channels: Vec<u16>,
+    accepted: Vec<Vec<u8>>,
+}
+
+impl<'a> Maker<'a> {
+    /// A maker that works mostly on these channels.
+    pub fn new(rng: &'a mut Rng, wallet: &'a mut Wallet, channels: Vec<u16>) -> Maker<'a> {
+        Maker {
+            rng,
+            wallet,
+            channels,
+            accepted: Vec::new(),
+        }
+    }
+
+    /// A command that may be right, wrong in one thing, out of its turn, damaged or repeated.
+    pub fn command(&mut self, book: &Book) -> Vec<u8> {
+        let n = self.rng.pick(&self.channels);
+        let opcode = self.fitting(book, n);
+        let mut plan = self.plan(book, n, opcode);
+        match self.rng.below(20) {
+            0..=9 => {}
+            10..=14 => spoil::plan(self.rng, &mut plan),
+            15 => {
+                let opcode = 1 + self.rng.below(10) as u8;
+                plan = self.plan(book, n, opcode);
+            }
+            16 => plan = self.plan(book, n, 1),
+            17 if !self.accepted.is_empty() => return self.repeated(),
+            _ => {
+                let bytes = self.write(book, &plan);
+                return spoil::bytes(self.rng, bytes);
+            }
+        }
+        self.write(book, &plan)
+    }
+
+    /// A command without signatures that fits where there is one.
+    pub fn unsigned(&mut self, book: &Book) -> Vec<u8> {
+        let n = self.rng.pick(&self.channels);
+        let opcode = match self.fitting(book, n) {
+            5..=9 => 10,
+            opcode => opcode,
+        };
+        let plan = self.plan(book, n, opcode);
+        self.write(book, &plan)
+    }
+
+    /// The command's bytes, as a rule with signatures for this message only where the checks get to
+    /// them.
+    fn write(&mut self, book: &Book, plan: &Plan) -> Vec<u8> {
+        let blank = plan.write(|_, _| [0; SIGNATURE]);
+        let refusal = oracle::apply(&mut book.clone(), &blank).refusal;
+        if matches!(refusal, 11 | 12) || self.rng.one_in(8) {
+            plan.write(|party, message| self.wallet.sign(party, message))
+        } else {
+            plan.write(|party, _| self.wallet.sign(party, b"something else"))
+        }
+    }
+
+    /// Remembers an accepted command, to repeat it.
+    pub fn remember(&mut self, command: Vec<u8>) {
+        self.accepted.push(command);
+    }
+
+    fn repeated(&mut self) -> Vec<u8> {
+        let at = self.rng.below(self.accepted.len());
+        self.accepted[at].clone()
+    }
+
+    /// A command that the channel's status allows, where there is one.
+    fn fitting(&mut self, book: &Book, n: u16) -> u8 {
+        let channel = &book.channels[usize::from(n)];
+        let early = book.clock < channel.deadline;
+        match channel.status {
+            0 => 2,
+            1 => 3,
+            2 => self.rng.pick(&[4, 4, 4, 5]),
+            3 => self.rng.pick(&[6, 7, 7, 8, 8]),
+            4 if early => self.rng.pick(&[1, 7, 7, 10]),
+            4 => self.rng.pick(&[7, 10, 10]),
+            5 if early => self.rng.pick(&[1, 9, 9, 10]),
+            5 => self.rng.pick(&[9, 10, 10]),
+            _ => 1 + self.rng.below(10) as u8,
+        }
+    }
+
+    /// The right operands for a command of this kind.
+    fn plan(&mut self, book: &Book, n: u16, opcode: u8) -> Plan {
+        let channel = &book.channels[usize::from(n)];
+        let signers = [channel.merchant.key, channel.customer.key];
+        let keys = self.keys();
+        Plan {
+            opcode,
+            n,
+            numbers: self.numbers(book, channel, opcode),
+            keys,
+            delay: self.rng.pick(&DELAYS),
+            string: self.string(channel, opcode),
+            signers: signers.map(|key| self.wallet.party(&key).unwrap_or(0)),
+            signed: (opcode, book.id, n),
+        }
+    }
+
+    fn numbers(&mut self, book: &Book, channel: &Channel, opcode: u8) -> [u64; 2] {
+        let total = channel
+            .customer
+            .deposit
+            .wrapping_add(channel.merchant.deposit);
+        match opcode {
+            1 => [self.time(book, channel), 0],
+            2 => self.rng.pick(&DEPOSITS),
+            3 => [channel.customer.deposit, 0],
+            4 => [channel.merchant.deposit, 0],
+            _ => {
+                let parts = [0, 1, total / 2, channel.customer.deposit, total];
+                let part = self.rng.pick(&parts).min(total);
+                [part, total - part]
+            }
+        }
+    }
+
+    /// A time around the channel's deadline or the clock.
+    fn time(&mut self, book: &Book, channel: &Channel) -> u64 {
+        let clock = book.clock;
+        let around = match channel.status {
+            4 | 5 => channel.deadline,
+            _ => clock.wrapping_add(u64::from(channel.delay)),
+        };
+        match self.rng.below(40) {
+            0 => self.rng.edge(),
+            1..=3 => clock.wrapping_sub(1),
+            4..=8 => clock,
+            9..=12 => clock.wrapping_add(1),
+            13..=22 => around.wrapping_sub(1),
+            23..=32 => around,
+            33..=36 => around.wrapping_add(1),
+            _ => clock.wrapping_add(self.rng.below(10_000) as u64),
+        }
+    }
+
+    /// Two different keys.
+    fn keys(&mut self) -> [[u8; 56]; 2] {
+        let customer = self.rng.below(Wallet::PARTIES);
+        let apart = 1 + self.rng.below(Wallet::PARTIES - 1);
+        [customer, (customer + apart) % Wallet::PARTIES].map(|party| self.wallet.key(party))
+    }
+
+    /// A lock, or the secret of the channel's lock.
+    fn string(&mut self, channel: &Channel, opcode: u8) -> [u8; 32] {
+        let secret = self.rng.pick(self.wallet.secrets());
+        match opcode {
+            9 => self.wallet.secret_of(&channel.lock).unwrap_or(secret),
+            _ => digest(&secret),
+        }
+    }
+}

@@ -1,0 +1,124 @@
+//! Random bytes into every exported function, on memory between guard bytes.
+
+mod journal;
+
+use super::strings::string;
+use super::World;
+use crate::arbitrary;
+use crate::fence::Fenced;
+use crate::pair::{hex, Outcome};
+use crate::rng::Rng;
+use finaruvom::raw;
+use std::mem::size_of;
+
+type Call = fn(&mut Rng, &mut Fenced) -> Outcome;
+
+const CALLS: &[Call] = &[hash, check, open, apply, journal::read, journal::run];
+
+/// Calls on one book.
+pub fn case(rng: &mut Rng, world: &mut World) -> Outcome {
+    let mut book = book(rng, world);
+    for _ in 0..100 {
+        let call = rng.pick(CALLS);
+        call(rng, &mut book)?;
+        world.tally.compared("guarded calls");
+    }
+    Ok(())
+}
+
+/// A sound book, or random bytes.
+fn book(rng: &mut Rng, world: &World) -> Fenced {
+    let mut fenced = Fenced::new(rng.bytes(size_of::<raw::Book>()), 0);
+    if !rng.one_in(8) {
+        let sound = arbitrary::sound_book(rng, &world.wallet);
+        // SAFETY: the buffer has a book's size and alignment.
+        unsafe { fenced.pointer::<raw::Book>().write(sound) };
+    }
+    fenced
+}
+
+/// Bytes to lend that start anywhere.
+fn lend(rng: &mut Rng, bytes: Vec<u8>) -> Fenced {
+    Fenced::new(bytes, rng.below(8))
+}
+
+/// Whether the call kept to what it was lent.
+fn kept(call: &str, written: &[&Fenced], read: &[&Fenced]) -> Outcome {
+    let kept = written.iter().all(|buffer| buffer.intact())
+        && read.iter().all(|buffer| buffer.untouched());
+    match kept {
+        true => Ok(()),
+        false => {
+            let read: Vec<String> = read.iter().map(|buffer| hex(buffer.bytes())).collect();
+            Err(format!(
+                "{call} wrote where it may not; lent: {}",
+                read.join(" ")
+            ))
+        }
+    }
+}
+
+fn hash(rng: &mut Rng, _: &mut Fenced) -> Outcome {
+    let bytes = rng.bytes_of(&[0, 1, 55, 56, 64, 65, 1_000, 65_536, 65_537]);
+    let mut bytes = lend(rng, bytes);
+    let mut digest = lend(rng, vec![0; 32]);
+    // SAFETY: the bytes are readable and the digest is writable.
+    unsafe { raw::finaruvom_hash(bytes.pointer(), bytes.length(), digest.pointer()) };
+    kept("hash", &[&digest], &[&bytes])
+}
+
+fn check(rng: &mut Rng, _: &mut Fenced) -> Outcome {
+    let mut key = rng.bytes_of(&[0, 55, 56, 56, 56, 57]);
+    let mut signature = rng.bytes_of(&[0, 39, 1_451, 1_452, 1_452, 1_452, 1_453]);
+    if let (Some(key), Some(signature)) = (key.get_mut(..8), signature.get_mut(..8)) {
+        key.copy_from_slice(&oracle::TYPES);
+        signature.copy_from_slice(&[0, 0, 1, 2, 0, 0, 0, 4]);
+    }
+    if let Some(kind) = signature.get_mut(1128..1132) {
+        kind.copy_from_slice(&oracle::TYPES[..4]);
+    }
+    let message = rng.bytes_of(&[0, 1, 19, 67, 1_024, 1_025]);
+    let [mut key, mut signature, mut message] =
+        [key, signature, message].map(|bytes| lend(rng, bytes));
+    let mut verdict = lend(rng, vec![0xff]);
+    let mut steps = Fenced::new(vec![0xff; 4], 4 * rng.below(2));
+    // SAFETY: the three buffers are readable, and verdict and steps are writable.
+    unsafe {
+        raw::finaruvom_check(
+            key.pointer(),
+            key.length(),
+            message.pointer(),
+            message.length(),
+            signature.pointer(),
+            signature.length(),
+            verdict.pointer(),
+            steps.pointer(),
+        )
+    };
+    kept("check", &[&verdict, &steps], &[&key, &message, &signature])?;
+    match verdict.bytes() {
+        [0 | 1] => Ok(()),
+        other => Err(format!("a verdict of {other:?}")),
+    }
+}
+
+fn open(rng: &mut Rng, book: &mut Fenced) -> Outcome {
+    let id = rng.bytes_of(&[0, 1, 15, 17, 16]);
+    let mut id = lend(rng, id);
+    // SAFETY: the book is writable and the id readable.
+    unsafe { raw::finaruvom_open(book.pointer(), id.pointer(), id.length()) };
+    kept("open", &[book], &[&id])
+}
+
+fn apply(rng: &mut Rng, book: &mut Fenced) -> Outcome {
+    let command = string(rng);
+    let mut command = lend(rng, command);
+    // SAFETY: the book is writable and the command readable.
+    let answer =
+        unsafe { raw::finaruvom_apply(book.pointer(), command.pointer(), command.length()) };
+    kept("apply", &[book], &[&command])?;
+    match answer.refusal {
+        0..=12 | 99 => Ok(()),
+        other => Err(format!("a refusal of {other}")),
+    }
+}

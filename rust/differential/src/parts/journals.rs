@@ -1,0 +1,36 @@
+//! Lists of commands from a fresh book, made by somebody who knows its state.
+use super::World;
+use crate::maker::Maker;
+use crate::pair::{Outcome, Pair};
+use crate::rng::Rng;
+
+/// One book, some channels, some commands.
+pub fn case(rng: &mut Rng, world: &mut World) -> Outcome {
+    let id = [rng.pick(&[0, 0xff]); 16];
+    let mut pair = Pair::fresh(id)?;
+    let (channels, commands) = match rng.below(8) {
+        0 => ((0..64).collect(), 400),
+        _ => (some_channels(rng), 60),
+    };
+    let mut maker = Maker::new(rng, &mut world.wallet, channels);
+    for number in 1..=commands {
+        let command = maker.command(&pair.oracle);
+        let refusal = pair
+            .apply(&command, &mut world.tally)
+            .map_err(|text| format!("command {number}, {text}"))?;
+        pair.read(&mut world.tally)?;
+        if refusal == 0 {
+            maker.remember(command);
+        }
+    }
+    world.tally.compared("journals");
+    Ok(())
+}
+
+/// Up to five channels.
+fn some_channels(rng: &mut Rng) -> Vec<u16> {
+    let count = 1 + rng.below(5);
+    (0..count)
+        .map(|_| rng.pick(&[0, 1, 31, 32, 62, 63]))
+        .collect()
+}

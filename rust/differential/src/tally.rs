@@ -1,0 +1,123 @@
+//! What was compared, and which refusals came up.
+use std::collections::BTreeMap;
+use std::fmt;
+
+/// The answers that each first byte can get, 00 standing for none and for one that is no command.
+const REACHABLE: [(u8, &[u8]); 11] = [
+    (0x00, &[1, 99]),
+    (0x01, &[0, 2, 3, 99]),
+    (0x02, &[0, 2, 4, 5, 6, 7, 8, 99]),
+    (0x03, &[0, 2, 4, 5, 8, 99]),
+    (0x04, &[0, 2, 4, 5, 8, 99]),
+    (0x05, &[0, 2, 4, 5, 12, 99]),
+    (0x06, &[0, 2, 4, 5, 8, 11, 12, 99]),
+    (0x07, &[0, 2, 4, 5, 8, 9, 11, 12, 99]),
+    (0x08, &[0, 2, 4, 5, 11, 99]),
+    (0x09, &[0, 2, 4, 5, 9, 10, 11, 99]),
+    (0x0a, &[0, 2, 4, 5, 9, 99]),
+];
+
+/// Accepted commands by the channel's status before and after.
+const MOVES: [(u8, u8, u8); 12] = [
+    (0x02, 0, 1),
+    (0x03, 1, 2),
+    (0x03, 1, 3),
+    (0x04, 2, 3),
+    (0x05, 2, 6),
+    (0x06, 3, 6),
+    (0x07, 3, 5),
+    (0x07, 4, 5),
+    (0x08, 3, 4),
+    (0x09, 5, 6),
+    (0x0a, 4, 6),
+    (0x0a, 5, 6),
+];
+
+/// Numbers of the answers.
+const REFUSALS: [u8; 14] = [0, 1, 2, 3, 4, 5, 6, 7, 8, 9, 10, 11, 12, 99];
+
+/// Counts of a whole run.
+#[derive(Default)]
+pub struct Tally {
+    compared: BTreeMap<&'static str, u64>,
+    answers: BTreeMap<(u8, u8), u64>,
+    moves: BTreeMap<(u8, u8, u8), u64>,
+}
+
+impl Tally {
+    /// Counts something that was compared.
+    pub fn compared(&mut self, what: &'static str) {
+        *self.compared.entry(what).or_default() += 1;
+    }
+
+    /// Counts the answer to a command.
+    pub fn answer(&mut self, command: &[u8], refusal: u8) {
+        self.compared("commands");
+        let row = row(command);
+        *self.answers.entry((row, refusal)).or_default() += 1;
+    }
+
+    /// Counts an accepted command by the channel's status before and after.
+    pub fn moved(&mut self, command: &[u8], before: u8, after: u8) {
+        let place = (row(command), before, after);
+        *self.moves.entry(place).or_default() += 1;
+    }
+
+    /// What could have come up and never did.
+    pub fn missing(&self) -> Vec<String> {
+        let answers = REACHABLE
+            .iter()
+            .flat_map(|(row, all)| all.iter().map(|one| (*row, *one)));
+        let never = answers.filter(|place| !self.answers.contains_key(place));
+        let mut missing: Vec<String> = never
+            .map(|(row, refusal)| format!("{row:02X} answered {refusal}"))
+            .collect();
+        let never = MOVES.iter().filter(|place| !self.moves.contains_key(place));
+        missing.extend(
+            never.map(|(row, before, after)| format!("{row:02X} from status {before} to {after}")),
+        );
+        missing
+    }
+
+    /// Answers by first byte, and moves.
+    fn table(&self, f: &mut fmt::Formatter<'_>) -> fmt::Result {
+        write!(f, "answers:")?;
+        for refusal in REFUSALS {
+            write!(f, "{refusal:>8}")?;
+        }
+        for (row, _) in REACHABLE {
+            write!(f, "\n     {row:02X} ")?;
+            for refusal in REFUSALS {
+                match self.answers.get(&(row, refusal)) {
+                    Some(count) => write!(f, "{count:>8}")?,
+                    None => write!(f, "{:>8}", "-")?,
+                }
+            }
+        }
+        writeln!(f, "\naccepted, with the status before and after:")?;
+        for ((row, before, after), count) in &self.moves {
+            writeln!(f, "{count:>12} {row:02X} {before} > {after}")?;
+        }
+        Ok(())
+    }
+}
+
+/// The first byte if it is a command, else 0.
+fn row(command: &[u8]) -> u8 {
+    match command.first() {
+        Some(&first @ 0x01..=0x0a) => first,
+        _ => 0,
+    }
+}
+
+impl fmt::Display for Tally {
+    fn fmt(&self, f: &mut fmt::Formatter<'_>) -> fmt::Result {
+        for (what, count) in &self.compared {
+            writeln!(f, "{count:>12} {what}")?;
+        }
+        match self.answers.is_empty() {
+            true => Ok(()),
+            false => self.table(f),
+        }
+    }
+}

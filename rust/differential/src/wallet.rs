@@ -1,0 +1,72 @@
+//! Keys, secrets and signatures that the cases share.
+use oracle::{digest, Digest, Signer, SIGNATURE};
+use std::collections::HashMap;
+
+/// The leaves that the keys can sign with.
+const LEAVES: [u32; 6] = [0, 1, 511, 512, 1_022, 1_023];
+/// Signatures to keep before the pool is emptied.
+const POOL: usize = 20_000;
+
+/// The keys of some parties, the secrets of their locks, and the signatures made so far.
+pub struct Wallet {
+    signers: Vec<Signer>,
+    secrets: Vec<Digest>,
+    pool: HashMap<(usize, Vec<u8>), [u8; SIGNATURE]>,
+}
+
+impl Wallet {
+    /// Parties that have keys.
+    pub const PARTIES: usize = 6;
+
+    /// A party's key.
+    pub fn key(&self, party: usize) -> [u8; 56] {
+        self.signers[party].key()
+    }
+
+    /// The party with this key.
+    pub fn party(&self, key: &[u8; 56]) -> Option<usize> {
+        self.signers.iter().position(|signer| signer.key() == *key)
+    }
+
+    /// The secrets.
+    pub fn secrets(&self) -> &[Digest] {
+        &self.secrets
+    }
+
+    /// The secret that opens a lock.
+    pub fn secret_of(&self, lock: &Digest) -> Option<Digest> {
+        let opens = |secret: &&Digest| digest(*secret) == *lock;
+        self.secrets.iter().find(opens).copied()
+    }
+
+    /// A party's signature of a message, always the same one; the message chooses the leaf.
+    pub fn sign(&mut self, party: usize, message: &[u8]) -> [u8; SIGNATURE] {
+        if self.pool.len() >= POOL {
+            self.pool.clear();
+        }
+        let signer = &self.signers[party];
+        let place = (party, message.to_vec());
+        *self.pool.entry(place).or_insert_with(|| {
+            let c = digest(message);
+            let leaf = LEAVES[usize::from(c[0]) % LEAVES.len()];
+            signer.sign(leaf, &c, message)
+        })
+    }
+}
+
+impl Default for Wallet {
+    /// Makes the keys.
+    fn default() -> Wallet {
+        let signer = |party: usize| {
+            let seed = digest(&[party as u8]);
+            let identifier = seed[..16].try_into().unwrap();
+            Signer::with_leaves(seed, identifier, &LEAVES)
+        };
+        let secret = |number: u8| digest(&[0x5e, number]);
+        Wallet {
+            signers: (0..Wallet::PARTIES).map(signer).collect(),
+            secrets: (0..4).map(secret).collect(),
+            pool: HashMap::new(),
+        }
+    }
+}

@@ -1,0 +1,83 @@
+//! The published journals and signatures through the library alone.
+use finaruvom::{Answer, Book, Verdict};
+use std::collections::HashMap;
+
+/// The commands of a journal, up to the first one that is unknown or cut.
+fn commands(journal: &[u8]) -> Vec<&[u8]> {
+    let mut rest = journal;
+    let mut commands = Vec::new();
+    while let Some(length) = rest.first().and_then(|first| oracle::length(*first)) {
+        let Some((command, behind)) = rest.split_at_checked(length) else {
+            break;
+        };
+        commands.push(command);
+        rest = behind;
+    }
+    commands
+}
+
+fn compare(input: &[u8], text: &str) {
+    let (id, journal) = input.split_at(16);
+    let mut book = Book::open(id).unwrap();
+    let mut lines = text.lines();
+    for (number, command) in (1..).zip(commands(journal)) {
+        let Answer {
+            refusal,
+            customer,
+            merchant,
+            steps,
+        } = book.apply(command);
+        let line = format!("{number} {refusal} {customer} {merchant} {steps}");
+        assert_eq!(Some(line.as_str()), lines.next());
+    }
+    assert!(lines.next().unwrap().starts_with("end "));
+}
+
+#[test]
+fn journals() {
+    let journals: [(&[u8], &str); 3] = [
+        (
+            include_bytes!("../../oracle/vectors/journal-1.bin"),
+            include_str!("../../oracle/vectors/journal-1.txt"),
+        ),
+        (
+            include_bytes!("../../oracle/vectors/journal-2.bin"),
+            include_str!("../../oracle/vectors/journal-2.txt"),
+        ),
+        (
+            include_bytes!("../../oracle/vectors/journal-3.bin"),
+            include_str!("../../oracle/vectors/journal-3.txt"),
+        ),
+    ];
+    for (input, text) in journals {
+        compare(input, text);
+    }
+}
+
+/// The bytes of hexadecimal digits; a dash stands for none.
+fn bytes(hex: &str) -> Vec<u8> {
+    let digits = hex.trim_matches('-');
+    let byte = |at| u8::from_str_radix(&digits[at..at + 2], 16).unwrap();
+    (0..digits.len()).step_by(2).map(byte).collect()
+}
+
+#[test]
+fn signatures() {
+    let text = include_str!("../../oracle/vectors/lms_h10_w8.txt");
+    let lines = text.lines().filter(|line| line.contains("verdict="));
+    for line in lines {
+        let words = line.split(' ').filter_map(|word| word.split_once('='));
+        let part: HashMap<&str, &str> = words.collect();
+        let verdict = Verdict {
+            good: part["verdict"] == "yes",
+            steps: part["steps"].parse().unwrap(),
+        };
+        let [key, message, signature] =
+            ["key", "message", "signature"].map(|name| bytes(part[name]));
+        assert_eq!(
+            finaruvom::check(&key, &message, &signature),
+            Ok(verdict),
+            "{line}"
+        );
+    }
+}

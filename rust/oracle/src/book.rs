@@ -1,0 +1,117 @@
+//! The book, its channels and when it is sound.
+
+/// Channels of a book.
+pub const CHANNELS: usize = 64;
+/// The largest clock and the largest total, 2^63 - 1.
+pub const LARGEST: u64 = (1 << 63) - 1;
+/// The shortest delay in seconds.
+pub const SHORTEST_DELAY: u32 = 3_600;
+/// The longest delay in seconds.
+pub const LONGEST_DELAY: u32 = 2_592_000;
+
+/// One side of a channel.
+#[derive(Clone, Copy, Debug, PartialEq, Eq)]
+pub struct Party {
+    /// The LMS key.
+    pub key: [u8; 56],
+    /// The deposit agreed, D_c or D_b.
+    pub deposit: u64,
+}
+
+/// A channel.
+#[derive(Clone, Copy, Debug, PartialEq, Eq)]
+pub struct Channel {
+    /// 0 unused, 1 awaiting customer, 2 awaiting merchant, 3 open, 4 merchant closing, 5 customer
+    /// closing, 6 closed.
+    pub status: u8,
+    /// The paper's café.
+    pub customer: Party,
+    /// The paper's bakery.
+    pub merchant: Party,
+    /// Seconds from a closing to its deadline.
+    pub delay: u32,
+    /// The closing's deadline.
+    pub deadline: u64,
+    /// The closing's customer part.
+    pub kept: u64,
+    /// The closing's lock.
+    pub lock: [u8; 32],
+}
+
+/// A book.
+#[derive(Clone, Debug, PartialEq, Eq)]
+pub struct Book {
+    /// Whether it carries the mark that every opening writes.
+    pub marked: bool,
+    /// The book id.
+    pub id: [u8; 16],
+    /// The clock.
+    pub clock: u64,
+    /// The channels by their numbers.
+    pub channels: [Channel; CHANNELS],
+}
+
+impl Channel {
+    /// A channel that nobody used.
+    pub const UNUSED: Channel = Channel {
+        status: 0,
+        customer: Party::NOBODY,
+        merchant: Party::NOBODY,
+        delay: 0,
+        deadline: 0,
+        kept: 0,
+        lock: [0; 32],
+    };
+
+    /// The two deposits together, as a whole number.
+    pub fn deposits(&self) -> u128 {
+        u128::from(self.customer.deposit) + u128::from(self.merchant.deposit)
+    }
+
+    /// Whether a sound book may have this channel.
+    fn sound(&self) -> bool {
+        let limits = self.deposits() <= u128::from(LARGEST)
+            && (SHORTEST_DELAY..=LONGEST_DELAY).contains(&self.delay);
+        match self.status {
+            0 => true,
+            1..=4 | 6 => limits,
+            5 => limits && u128::from(self.kept) <= self.deposits(),
+            _ => false,
+        }
+    }
+}
+
+impl Party {
+    const NOBODY: Party = Party {
+        key: [0; 56],
+        deposit: 0,
+    };
+}
+
+impl Book {
+    /// A fresh book with this id.
+    pub fn fresh(id: [u8; 16]) -> Book {
+        Book {
+            marked: true,
+            id,
+            clock: 0,
+            channels: [Channel::UNUSED; CHANNELS],
+        }
+    }
+
+    /// Makes the book fresh and answers 0; an id that is not 16 bytes long gives 2.
+    pub fn open(&mut self, id: &[u8]) -> u8 {
+        match id.try_into() {
+            Ok(id) => {
+                *self = Book::fresh(id);
+                0
+            }
+            Err(_) => 2,
+        }
+    }
+
+    /// Whether the book is sound.
+    pub fn sound(&self) -> bool {
+        self.marked && self.clock <= LARGEST && self.channels.iter().all(Channel::sound)
+    }
+}

@@ -1,0 +1,26 @@
+//! Document 01 in plain Rust, written from the paper alone, to compare the library with.
+
+mod book;
+mod check;
+mod command;
+mod journal;
+mod machine;
+mod one_time;
+mod reading;
+mod rules;
+mod sha256;
+mod signer;
+mod tree;
+
+#[cfg(test)]
+mod vectors;
+
+pub use book::{Book, Channel, Party, CHANNELS, LARGEST, LONGEST_DELAY, SHORTEST_DELAY};
+pub use check::{check, Verdict, SIGNATURE, TYPES};
+pub use command::length;
+pub use journal::{run, statement, Ran};
+pub use machine::{apply, Answer};
+pub use one_time::Place;
+pub use reading::{due, read, Reading};
+pub use sha256::{digest, hash, Digest};
+pub use signer::Signer;

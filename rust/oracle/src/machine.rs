@@ -1,0 +1,142 @@
+//! A command on a book: checks, then what it changes and pays.
+use crate::book::{Book, Channel, Party};
+use crate::check::check;
+use crate::command::{Command, Order};
+use crate::rules::{first_no, named};
+
+/// What a delay of 0 stands for.
+const DEFAULT_DELAY: u32 = 86_400;
+
+/// What a command answers.
+#[derive(Clone, Copy, Debug, Default, PartialEq, Eq)]
+pub struct Answer {
+    /// The refusal's number, or 0.
+    pub refusal: u8,
+    /// Cents paid to the customer.
+    pub customer: u64,
+    /// Cents paid to the merchant.
+    pub merchant: u64,
+    /// Chain steps of the signature checks made.
+    pub steps: u32,
+}
+
+/// Carries a command out, or refuses it.
+pub fn apply(book: &mut Book, bytes: &[u8]) -> Answer {
+    let mut steps = 0;
+    match accepted(book, bytes, &mut steps) {
+        Ok(command) => {
+            let (customer, merchant) = carry_out(book, &command);
+            Answer {
+                refusal: 0,
+                customer,
+                merchant,
+                steps,
+            }
+        }
+        Err(refusal) => Answer {
+            refusal,
+            steps,
+            ..Answer::default()
+        },
+    }
+}
+
+/// The command if every check says yes, else the refusal; counts the chain steps.
+fn accepted<'a>(book: &Book, bytes: &'a [u8], steps: &mut u32) -> Result<Command<'a>, u8> {
+    if !book.sound() {
+        return Err(99);
+    }
+    let command = Command::parse(bytes)?;
+    if let Some(refusal) = first_no(book, &command) {
+        return Err(refusal);
+    }
+    if let Some(channel) = named(book, &command) {
+        let message = command.message(&book.id);
+        let mut signed = |party: &Party, signature: Option<&[u8]>| {
+            signature.is_none_or(|signature| {
+                let verdict = check(&party.key, &message, signature);
+                *steps += verdict.steps;
+                verdict.good
+            })
+        };
+        if !signed(&channel.merchant, command.merchant_signature()) {
+            return Err(11);
+        }
+        if !signed(&channel.customer, command.customer_signature()) {
+            return Err(12);
+        }
+    }
+    Ok(command)
+}
+
+/// Changes the book and gives what is paid to customer and merchant.
+fn carry_out(book: &mut Book, command: &Command) -> (u64, u64) {
+    if let Order::Clock { time } = command.order {
+        book.clock = time;
+    }
+    let Some(n) = command.channel else {
+        return (0, 0);
+    };
+    let channel = &mut book.channels[usize::from(n)];
+    let paid = payment(channel, command.order);
+    let status = next_status(channel, command.order);
+    store(channel, book.clock, command.order);
+    channel.status = status;
+    paid
+}
+
+/// What a command pays to customer and merchant.
+fn payment(channel: &Channel, order: Order) -> (u64, u64) {
+    match (order, channel.status) {
+        (Order::Reclaim, _) => (channel.customer.deposit, 0),
+        (Order::MutualClose { customer, merchant }, _) => (customer, merchant),
+        (Order::CustomerCloses { merchant, .. }, _) => (0, merchant),
+        (Order::Dispute { .. }, _) => (0, channel.kept),
+        (Order::Settle, 4) => (0, channel.customer.deposit + channel.merchant.deposit),
+        (Order::Settle, _) => (channel.kept, 0),
+        _ => (0, 0),
+    }
+}
+
+/// The channel's status after a command.
+fn next_status(channel: &Channel, order: Order) -> u8 {
+    match order {
+        Order::Clock { .. } => channel.status,
+        Order::Establish { .. } => 1,
+        Order::CustomerFunds { .. } if channel.merchant.deposit > 0 => 2,
+        Order::CustomerFunds { .. } | Order::MerchantFunds { .. } => 3,
+        Order::MerchantCloses => 4,
+        Order::CustomerCloses { .. } => 5,
+        Order::Reclaim | Order::MutualClose { .. } | Order::Dispute { .. } | Order::Settle => 6,
+    }
+}
+
+/// Stores the values that a command sets beside the status.
+fn store(channel: &mut Channel, clock: u64, order: Order) {
+    match order {
+        Order::Establish {
+            customer,
+            merchant,
+            customer_deposit,
+            merchant_deposit,
+            delay,
+        } => {
+            channel.customer = Party {
+                key: *customer,
+                deposit: customer_deposit,
+            };
+            channel.merchant = Party {
+                key: *merchant,
+                deposit: merchant_deposit,
+            };
+            channel.delay = if delay == 0 { DEFAULT_DELAY } else { delay };
+        }
+        Order::CustomerCloses { lock, customer, .. } => {
+            channel.lock = *lock;
+            channel.kept = customer;
+            channel.deadline = clock + u64::from(channel.delay);
+        }
+        Order::MerchantCloses => channel.deadline = clock + u64::from(channel.delay),
+        _ => {}
+    }
+}

@@ -1,0 +1,5 @@
+//! The published vectors.
+mod journals;
+mod lms;
+mod sha256;
+mod text;
