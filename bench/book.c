@@ -1,5 +1,5 @@
-// Times commands without a signature on a full book, beside the C baseline in one run, and counts the bytes that each copies.
-// Both must leave equal books and answers; a difference ends the run with status 1.
+// Times commands without a signature on a full book, and a journal of them, beside the C baseline in one run, and counts the bytes that each
+// copies. Both must leave equal books, answers and lines; a difference ends the run with status 1.
 #include "book.h"
 #include <stdio.h>
 #include <stdlib.h>
@@ -64,6 +64,41 @@ static bool same(const struct finaruvom_answer *a, const struct finaruvom_answer
     return a->refusal == b->refusal && a->customer == b->customer && a->merchant == b->merchant && a->steps == b->steps;
 }
 
+typedef struct finaruvom_ran run(struct finaruvom_book *, const uint8_t *, size_t, struct finaruvom_line *, size_t);
+enum { JOURNAL = 65536, LINES = JOURNAL / 3, RUNS = 20 };
+static uint8_t journal[JOURNAL];
+static struct finaruvom_line c_lines[LINES], lines[LINES];
+
+static double timed_run(run *f, struct finaruvom_line *out, struct finaruvom_ran *ran) {
+    double best = 1;
+    for (int t = 0; t < RUNS; t++) {
+        static struct finaruvom_book book;
+        book = full;
+        double start = seconds();
+        *ran = f(&book, journal, JOURNAL, out, LINES);
+        double took = seconds() - start;
+        if (took < best)
+            best = took;
+    }
+    return best;
+}
+
+// A journal of the shortest commands: settle, on an open channel.
+static int timed_journal(void) {
+    struct finaruvom_ran a, b;
+    fill(3);
+    for (int i = 0; i < JOURNAL; i++)
+        journal[i] = i % 3 == 0 ? 10 : i % 3 == 2 ? 5 : 0;
+    double c = timed_run(plain_run, c_lines, &b), l = timed_run(finaruvom_run, lines, &a);
+    if (a.lines != LINES || b.lines != LINES || a.used != b.used || a.cause != b.cause)
+        return 0;
+    for (int i = 0; i < LINES; i++)
+        if (!same(&lines[i].answer, &c_lines[i].answer))
+            return 0;
+    printf("a journal of %d bytes, %d commands: C %.2f ms, library %.2f ms, ratio %.1f\n", JOURNAL, LINES, 1e3 * c, 1e3 * l, l / c);
+    return 1;
+}
+
 int main(void) {
     static const struct row rows[] = {
         {"01 clock", {1, 0, 0, 0, 0, 0, 0, 3, 232}, 9, 0, 3},
@@ -90,6 +125,10 @@ int main(void) {
         copied = 0;
         finaruvom_apply(&books[0], row->bytes, row->n);
         printf("%-20s %10.0f %10.0f %8.1f %14zu\n", row->name, 1e9 * c, 1e9 * l, l / c, copied);
+    }
+    if (!timed_journal()) {
+        fprintf(stderr, "the two runs differ\n");
+        return 1;
     }
     return 0;
 }

@@ -75,8 +75,9 @@ static struct finaruvom_answer settle(struct finaruvom_channel *ch, uint64_t clo
     return answer;
 }
 
+static const size_t sizes[] = {0, 9, 135, 11, 11, 1455, 2923, 2955, 1455, 1487, 3};
+
 struct finaruvom_answer plain_apply(struct finaruvom_book *book, const uint8_t *command, size_t n) {
-    static const size_t sizes[] = {0, 9, 135, 11, 11, 1455, 2923, 2955, 1455, 1487, 3};
     if (!sound(book))
         return refuse(99);
     if (n == 0 || command[0] == 0 || command[0] > 10)
@@ -100,4 +101,17 @@ struct finaruvom_answer plain_apply(struct finaruvom_book *book, const uint8_t *
     if (op == 3 || op == 4)
         return refuse(fund(ch, op, number(command + 3, 8)));
     return op == 10 ? settle(ch, book->clock) : refuse(5);
+}
+
+struct finaruvom_ran plain_run(struct finaruvom_book *book, const uint8_t *commands, size_t n, struct finaruvom_line *lines, size_t lines_n) {
+    struct finaruvom_ran ran = {0, 0, 0};
+    for (; ran.used < n; ran.lines++) {
+        uint8_t op = commands[ran.used];
+        ran.cause = ran.lines == lines_n ? 13 : op == 0 || op > 10 ? 1 : n - ran.used < sizes[op] ? 2 : 0;
+        if (ran.cause != 0)
+            break;
+        lines[ran.lines].answer = plain_apply(book, commands + ran.used, sizes[op]);
+        ran.used += sizes[op];
+    }
+    return ran;
 }

@@ -1,2 +1,2 @@
--- The parts in which the code takes a step.
+-- The part of a step that the code takes on the clock alone.
 pub mod Parts

@@ -1,14 +1,19 @@
--- The parts in which the code takes a step: a refusal, and a rule's channel written to the book.
+-- The part of a step that the code takes on the clock alone.
+use mathlib.Core.Bool.{cond, _&&_}
+use mathlib.Core.List.{[], _∷_}
 use Prim.Native.Nat.{ℕ}
-use Rattle.machine.specs.Book.{cents, withChannel}
+use lib.Dec.{leb}
+use Rattle.machine.specs.Book.{cents, seconds, limit}
+use Rattle.machine.specs.Checks.{test, clean, passed, judge}
 use Rattle.machine.specs.Machine.{answer}
-use Rattle.machine.specs.declared.state.Book.{Book}
+use Rattle.machine.specs.declared.units.Seconds.{Seconds}
 use Rattle.machine.specs.declared.answers.Judged.{Judged}
-use Rattle.machine.specs.declared.answers.Ruled.{Ruled}
-use Rattle.machine.specs.declared.answers.Stepped.{Stepped}
+use Rattle.arbiter.specs.declared.steps.Clocked.{Clocked}
 
-abbrev pub refused : Book → Judged → Stepped
-refused b j = record { book = b; answer = answer j (cents 0) (cents 0) }
+-- Check 3.
+abbrev pub timed : Seconds → ℕ → Judged
+timed now t = judge clean (test 3 (leb (now .0) t && leb t limit) ∷ [])
 
-abbrev pub written : Book → ℕ → Ruled → Stepped
-written b n r = record { book = withChannel b n (r .channel); answer = r .answer }
+-- 01: a refused command leaves the clock as it is.
+abbrev pub clocked : Seconds → ℕ → Clocked
+clocked now t = record { clock = cond (passed (timed now t)) (seconds t) now; answer = answer (timed now t) (cents 0) (cents 0) }

@@ -9,15 +9,13 @@ returns c =
     let c₂ = c .before .before in
     let c₃ = c₂ .before in
     let c₄ = c₃ .before in
-    let c₅ = c₄ .before in
-    let c₇ = c₅ .before .before in
-    (c .tested3 .ensures .0 ∙ rw (c .before .size-of .ensures, c₂ .tested2 .ensures .0, c₃ .tested .ensures .0, c₄ .sound .ensures, c₅ .unjudged .ensures .0, c₇ .pre), omega arith)
+    let c₆ = c₄ .before .before in
+    (c .tested3 .ensures .0 ∙ rw (c .before .size-of .ensures, c₂ .tested2 .ensures .0, c₃ .tested .ensures .0, c₄ .unjudged .ensures .0, c₆ .pre), omega arith)
 
 pub shared-checks-spec : {M : Type 1} → statement M
 shared-checks-spec =
     tie.close
     (tie.spec
-    (λ c κs. search needs)
     (λ c κs. search needs)
     (λ c κs. search needs)
     (λ c κs. search needs)
