@@ -1,6 +1,7 @@
 //! The published journals and signatures through the library alone.
-use finaruvom::{Answer, Book, Verdict};
+use finaruvom::{Answer, Book, Line, Verdict};
 use std::collections::HashMap;
+use std::fmt::Write;
 
 /// The commands of a journal, up to the first one that is unknown or cut.
 fn commands(journal: &[u8]) -> Vec<&[u8]> {
@@ -33,24 +34,58 @@ fn compare(input: &[u8], text: &str) {
     assert!(lines.next().unwrap().starts_with("end "));
 }
 
+const JOURNALS: [(&[u8], &str); 3] = [
+    (
+        include_bytes!("../../../tests/journals/journal-1.bin"),
+        include_str!("../../../tests/journals/journal-1.txt"),
+    ),
+    (
+        include_bytes!("../../../tests/journals/journal-2.bin"),
+        include_str!("../../../tests/journals/journal-2.txt"),
+    ),
+    (
+        include_bytes!("../../../tests/journals/journal-3.bin"),
+        include_str!("../../../tests/journals/journal-3.txt"),
+    ),
+];
+
 #[test]
-fn journals() {
-    let journals: [(&[u8], &str); 3] = [
-        (
-            include_bytes!("../../oracle/vectors/journal-1.bin"),
-            include_str!("../../oracle/vectors/journal-1.txt"),
-        ),
-        (
-            include_bytes!("../../oracle/vectors/journal-2.bin"),
-            include_str!("../../oracle/vectors/journal-2.txt"),
-        ),
-        (
-            include_bytes!("../../oracle/vectors/journal-3.bin"),
-            include_str!("../../oracle/vectors/journal-3.txt"),
-        ),
-    ];
-    for (input, text) in journals {
+fn journals_by_command() {
+    for (input, text) in JOURNALS {
         compare(input, text);
+    }
+}
+
+/// What the statement program prints: the run is called again while lines are short.
+fn statement(input: &[u8]) -> String {
+    let (id, journal) = input.split_at(16);
+    let mut book = Book::open(id).unwrap();
+    let mut lines = [Line::default(); 7];
+    let (mut text, mut number, mut used) = (String::new(), 0, 0);
+    loop {
+        let ran = book.run(&journal[used..], &mut lines);
+        used += ran.used;
+        for line in &lines[..ran.lines] {
+            number += 1;
+            let Answer {
+                refusal,
+                customer,
+                merchant,
+                steps,
+            } = line.answer;
+            writeln!(text, "{number} {refusal} {customer} {merchant} {steps}").unwrap();
+        }
+        if ran.cause != 13 {
+            writeln!(text, "end {used} {}", ran.cause).unwrap();
+            return text;
+        }
+    }
+}
+
+#[test]
+fn journals_by_run() {
+    for (input, text) in JOURNALS {
+        assert_eq!(statement(input), text);
     }
 }
 

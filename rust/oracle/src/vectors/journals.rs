@@ -5,16 +5,16 @@ use crate::journal::statement;
 fn published() {
     let journals: [(&[u8], &str); 3] = [
         (
-            include_bytes!("../../vectors/journal-1.bin"),
-            include_str!("../../vectors/journal-1.txt"),
+            include_bytes!("../../../../tests/journals/journal-1.bin"),
+            include_str!("../../../../tests/journals/journal-1.txt"),
         ),
         (
-            include_bytes!("../../vectors/journal-2.bin"),
-            include_str!("../../vectors/journal-2.txt"),
+            include_bytes!("../../../../tests/journals/journal-2.bin"),
+            include_str!("../../../../tests/journals/journal-2.txt"),
         ),
         (
-            include_bytes!("../../vectors/journal-3.bin"),
-            include_str!("../../vectors/journal-3.txt"),
+            include_bytes!("../../../../tests/journals/journal-3.bin"),
+            include_str!("../../../../tests/journals/journal-3.txt"),
         ),
     ];
     for (input, expected) in journals {
