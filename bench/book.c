@@ -1,20 +1,13 @@
-// Times commands without a signature on a full book, and a journal of them, beside the C baseline in one run, and counts the bytes that each
-// copies. Both must leave equal books, answers and lines; a difference ends the run with status 1.
+// Times commands without a signature on a full book, and a journal of them, beside the C baseline in one run, and counts the copies of the book and
+// the bytes that each makes. Both must leave equal books, answers and lines; a difference ends the run with status 1.
 #include "book.h"
+#include "copied.h"
 #include <stdio.h>
 #include <stdlib.h>
 #include <string.h>
 #include <time.h>
 
 enum { COUNT = 200, TRIES = 400 };
-
-// Every call of memcpy from the library comes here, since the linker wraps it.
-void *__real_memcpy(void *to, const void *from, size_t n);
-static size_t copied;
-void *__wrap_memcpy(void *to, const void *from, size_t n) {
-    copied += n;
-    return __real_memcpy(to, from, n);
-}
 
 static struct finaruvom_book full;
 
@@ -111,7 +104,7 @@ int main(void) {
         {"refused with 8", {3, 0, 5, 0, 0, 0, 0, 0, 0, 3, 131}, 11, 8, 1},
     };
     static struct finaruvom_book books[4], plain[4];
-    printf("%-20s %10s %10s %8s %14s\n", "command", "C, ns", "library", "ratio", "bytes copied");
+    printf("%-20s %10s %10s %8s %8s %14s\n", "command", "C, ns", "library", "ratio", "copies", "bytes copied");
     for (size_t i = 0; i < sizeof rows / sizeof rows[0]; i++) {
         const struct row *row = &rows[i];
         struct finaruvom_answer a, b;
@@ -122,9 +115,9 @@ int main(void) {
             fprintf(stderr, "%s: the two differ\n", row->name);
             return 1;
         }
-        copied = 0;
+        copied = books_copied = 0;
         finaruvom_apply(&books[0], row->bytes, row->n);
-        printf("%-20s %10.0f %10.0f %8.1f %14zu\n", row->name, 1e9 * c, 1e9 * l, l / c, copied);
+        printf("%-20s %10.0f %10.0f %8.1f %8zu %14zu\n", row->name, 1e9 * c, 1e9 * l, l / c, books_copied, copied);
     }
     if (!timed_journal()) {
         fprintf(stderr, "the two runs differ\n");

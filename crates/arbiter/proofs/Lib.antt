@@ -1,6 +1,4 @@
--- What a sound book tells, the step in the parts that the code takes, and walks over a lent book.
+-- What a sound book tells, the step in the parts that the code takes, and what the forms by value return.
 pub mod SoundBook
 pub mod Stepping
-pub mod Lending
-pub mod Looking
 pub mod Outcomes

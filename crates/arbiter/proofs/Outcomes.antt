@@ -18,8 +18,8 @@ use Rattle.machine.proofs.answers.Reading as R
 use Rattle.machine.proofs.answers.Reading.Laws as R′
 use Rattle.machine.proofs.answers.Found as F
 use Rattle.machine.proofs.answers.Found.Laws as F′
-use Rattle.arbiter.proofs.Lending.{Outcome}
-use Rattle.arbiter.proofs.Looking.{Returned}
+use Rattle.lending.proofs.Lending.{Outcome}
+use Rattle.lending.proofs.Looking.{Returned}
 
 abbrev pub stepped : Outcome T.the-row N.the-row
 stepped = record {
@@ -32,7 +32,7 @@ stepped = record {
   book-is = λ r w is. LL.owed T.the-type T′.the-laws r _ is .0;
   answer-is = λ r w is. LL.owed T.the-type T′.the-laws r _ is .1 .0;
   typed = λ 𝓤 H A W r w is. LL.lawful T.the-type T′.the-laws 𝓤 H A W .typed r _ is .0;
-  answer-typed = λ 𝓤 H A W x is. LL.lawful N.the-type N′.the-laws 𝓤 H A W .typed x _ is .0;
+  answer-typed = λ 𝓤 H A W x w is. LL.lawful N.the-type N′.the-laws 𝓤 H A W .typed x _ is .0;
   makes = λ 𝓤 H A W. LL.makes N.the-type N′.the-plain 𝓤 H A;
 }
 
@@ -47,7 +47,7 @@ opened = record {
   book-is = λ r w is. LL.owed O.the-type O′.the-laws r _ is .0;
   answer-is = λ r w is. LL.owed O.the-type O′.the-laws r _ is .1 .0;
   typed = λ 𝓤 H A W r w is. LL.lawful O.the-type O′.the-laws 𝓤 H A W .typed r _ is .0;
-  answer-typed = λ 𝓤 H A W x is. uint-lawful 𝓤 H A W w8 .typed x _ is .0;
+  answer-typed = λ 𝓤 H A W x w is. uint-lawful 𝓤 H A W w8 .typed x _ is .0;
   makes = λ 𝓤 H A W. uint-makes 𝓤 H A W w8;
 }
 

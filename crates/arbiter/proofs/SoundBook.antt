@@ -1,11 +1,14 @@
--- What a sound book tells of its clock and of each channel.
-use mathlib.Core.Path.{_≡_, refl, sym, _∙_}
-use mathlib.Core.Bool.{Bool, true, _&&_}
+-- What a sound book tells of its clock and of each channel, and the test of its channels one by one.
+use mathlib.Core.Path.{_≡_, refl, sym, ap, _∙_}
+use mathlib.Core.Bool.{Bool, true, _&&_, and-true, and-assoc}
 use mathlib.Core.List.{List, [], _∷_, map}
-use Prim.Native.Nat.{ℕ, zero, suc, _≤_}
+use Prim.Native.Nat.{ℕ, zero, suc, _+_, _≤_, _<_}
+use native.Mathlib.Numerals.{add-one}
+use native.Mathlib.Omega.{arith}
 use borrow.Author.Tests.{leb-true}
 use lib.Dec.{leb, eqb}
-use lib.ListN.{length, getD, length-map}
+use lib.ListN.{length, take, getD, length-map}
+use lib.Seq.{take-all}
 use Rattle.machine.specs.Book.{limit, theMark, soundChannel, all, sound, channel, noChannel}
 use Rattle.machine.specs.declared.state.Channel.{Channel}
 use Rattle.machine.specs.declared.state.Book.{Book}
@@ -31,3 +34,30 @@ sound-at b n e =
 -- An array of structs: what owning it tells is of the machine's values.
 pub length-of-map : (X Y : Type 0) (f : X → Y) (l : List X) (n : ℕ) → length (map f l) ≡ n → length l ≡ n
 length-of-map X Y f l n e = sym (length-map l f) ∙ e
+
+-- ---- the test of the channels one by one
+
+all-more : (p : Channel → Bool) (l : List Channel) (i : ℕ) (d : Channel) → i < length l → (all p (take i l) && p (getD l i d)) ≡ all p (take (suc i) l)
+all-more p [] i d h = let z : ⊥ = omega arith in absurd z
+all-more p (x ∷ l) zero d h = sym (and-true (p x))
+all-more p (x ∷ l) (suc i) d h = and-assoc (p x) (all p (take i l)) (p (getD l i d)) ∙ ap (λ (t : Bool). p x && t) (all-more p l i d (omega arith))
+
+-- After i turns the flag says whether mark and clock, and the first i channels, are sound.
+abbrev pub Tested : Book → Bool → ℕ → Type 0
+Tested b ok i = (i ≤ 64) × (ok ≡ (eqb (b .mark) theMark && leb (b .clock .0) limit && all soundChannel (take i (b .channels))))
+
+pub tested-none : (b : Book) (ok : Bool) → ok ≡ (eqb (b .mark) theMark && leb (b .clock .0) limit) → Tested b ok 0
+tested-none b ok e = (omega arith, e ∙ sym (and-true _))
+
+module _ (b : Book) (h : length (b .channels) ≡ 64) (ok : Bool) (i : ℕ) (t : Tested b ok i) where
+  pub tested-more : (x : Bool) → i < 64 → x ≡ soundChannel (channel b i) → Tested b (ok && x) (i + 1)
+  tested-more x l e =
+      let head = eqb (b .mark) theMark && leb (b .clock .0) limit in
+      let rest = all soundChannel (take i (b .channels)) in (
+        omega arith,
+        rw (t .1, e, add-one) (and-assoc head rest (soundChannel (channel b i)) ∙ ap (λ (y : Bool). head && y) (all-more soundChannel (b .channels) i noChannel (omega arith))),
+      )
+
+  pub tested-all : 64 ≤ i → ok ≡ sound b
+  unfolding sound
+  tested-all l = t .1 ∙ rw (take-all i (b .channels) (omega arith))

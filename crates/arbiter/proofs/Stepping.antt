@@ -21,12 +21,7 @@ use Rattle.machine.specs.declared.answers.Judged.{Judged}
 use Rattle.machine.specs.declared.answers.Ruled.{Ruled}
 use Rattle.arbiter.specs.declared.steps.Clocked.{Clocked}
 use Rattle.machine.proofs.Laws.{and-both}
-use Rattle.machine.proofs.Judging.{judge-passed}
-use Rattle.channel.proofs.Asking.{ask-stop}
-
-judge-stop : (l : List Check) (j : Judged) → (j .refusal ≡ 0 → ⊥) → judge j l ≡ j
-judge-stop [] j h = refl
-judge-stop (k ∷ l) j h = ap (λ (i : Judged). judge i l) (sym (ask-stop j k h)) ∙ judge-stop l j h
+use Rattle.machine.proofs.Judging.{judge-passed, judge-stop}
 
 is-clean : (j : Judged) → j .refusal ≡ 0 → j .steps ≡ 0 → j ≡ clean
 is-clean j r s = ap (λ (n : ℕ). record { refusal = n; steps = j .steps }) r ∙ ap (λ (n : ℕ). record { refusal = 0; steps = n }) s

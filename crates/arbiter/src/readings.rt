@@ -1,7 +1,7 @@
 // A reading of one channel of a book.
 use crate::soundness::sound;
-use channel::read_channel;
-use channel::unread;
+use holdings::read_channel;
+use holdings::unread;
 use machine::Book;
 use machine::Reading;
 ghost use mathlib.Core.Path.{_≡_};

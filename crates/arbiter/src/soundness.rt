@@ -1,18 +1,26 @@
 // Whether a book is sound: any values may stand in a lent one.
-use channel::sound_channel;
+use holdings::sound_channel;
 use machine::Book;
+use machine::Seconds;
 ghost use mathlib.Core.Path.{_≡_};
-ghost use Rattle.machine.specs.Book.{sound};
+ghost use mathlib.Core.Bool.{_&&_};
+ghost use lib.Dec.{eqb, leb};
+ghost use Rattle.machine.specs.Book.{limit, theMark, sound};
+
+// What is asked of the book beside its channels.
+pub fn marked(mark: u64, clock: Seconds) -> bool
+    ensures { λ r. ⌜ r ≡ (eqb mark theMark && leb (clock .0) limit) ⌝ }
+{
+    (mark == 0x6172626974657221) & (clock.0 <= 9223372036854775807)
+}
 
 pub fn sound(book: Book) -> bool
     ensures { λ r. ⌜ r ≡ sound book ⌝ }
 {
-    let mut ok = (book.mark == 0x6172626974657221) & (book.clock.0 <= 9223372036854775807);
-    let mut i: usize = 0;
-    while i < 64 {
+    let mut ok = marked(book.mark, book.clock);
+    for i in 0..64 {
         let ch = book.channels[i];
         ok = ok & sound_channel(ch);
-        i += 1;
     }
     ok
 }

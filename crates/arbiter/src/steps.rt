@@ -1,9 +1,10 @@
 // One command on one book.
-use crate::soundness::sound;
-use channel::answered;
+use crate::soundness::marked;
+use checks::answered;
 use channel::rule;
-use channel::tested;
-use channel::unjudged;
+use holdings::sound_channel;
+use checks::tested;
+use checks::unjudged;
 use machine::Answer;
 use machine::Book;
 use machine::Cents;
@@ -79,33 +80,36 @@ fn set_clock(now: Seconds, time: u64) -> Clocked
 }
 
 // A command on a book: the book that it leaves, and its answer. A refused rule leaves the channel that stood there.
+// The book is tested and changed in place and returned at one place, so that the step makes no copy of it.
 pub fn step(mut book: Book, command: &[u8]) -> Stepped
     ensures { λ r. ⌜ r ≡ realStep book (now (command .entry)) ⌝ }
 {
+    let mut steady = marked(book.mark, book.clock);
+    for i in 0..64 {
+        let ch = book.channels[i];
+        steady = steady & sound_channel(ch);
+    }
     let op = opcode_of(command);
-    let j = shared_checks(sound(book), command, op);
-    if j.refusal != 0 {
-        let answer = answered(j, Cents(0), Cents(0));
-        return Stepped { book, answer };
+    let j = shared_checks(steady, command, op);
+    let mut answer = answered(j, Cents(0), Cents(0));
+    if j.refusal == 0 {
+        if op == 1 {
+            let done = set_clock(book.clock, u64_at(command, 1));
+            let clock = done.clock;
+            book.clock = clock;
+            answer = done.answer;
+        } else {
+            let n = u16_at(command, 1) as usize;
+            if n < 64 {
+                let ch = book.channels[n];
+                let done = rule(op, ch, book.id, book.clock, command);
+                let channel = done.channel;
+                book.channels[n] = channel;
+                answer = done.answer;
+            } else {
+                answer = answered(tested(j, 4, false), Cents(0), Cents(0));
+            }
+        }
     }
-    if op == 1 {
-        let done = set_clock(book.clock, u64_at(command, 1));
-        let clock = done.clock;
-        let answer = done.answer;
-        book.clock = clock;
-        return Stepped { book, answer };
-    }
-    let n = u16_at(command, 1) as usize;
-    if n >= 64 {
-        let far = tested(j, 4, false);
-        let answer = answered(far, Cents(0), Cents(0));
-        return Stepped { book, answer };
-    }
-    let id = book.id;
-    let ch = book.channels[n];
-    let done = rule(op, ch, id, book.clock, command);
-    let channel = done.channel;
-    let answer = done.answer;
-    book.channels[n] = channel;
     Stepped { book, answer }
 }

@@ -1,12 +1,12 @@
 // 06 to 0A: how a channel is closed, and what each way pays.
-use crate::checks::ruled;
-use crate::checks::tested;
-use crate::checks::unjudged;
-use crate::secrets::unlocked;
-use crate::signatures::sealed;
-use crate::sums::cents_if;
-use crate::sums::sums_to;
-use crate::sums::total_of;
+use checks::ruled;
+use checks::tested;
+use checks::unjudged;
+use checks::unlocked;
+use checks::sealed;
+use holdings::cents_if;
+use holdings::sums_to;
+use holdings::total_of;
 use machine::Cents;
 use machine::Channel;
 use machine::Ruled;

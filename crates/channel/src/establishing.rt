@@ -1,8 +1,8 @@
 // 02: a channel's two sides, their keys and agreed deposits, and its delay.
-use crate::checks::ruled;
-use crate::checks::tested;
-use crate::checks::unjudged;
-use crate::sums::total_fits;
+use checks::ruled;
+use checks::tested;
+use checks::unjudged;
+use holdings::total_fits;
 use machine::Cents;
 use machine::Channel;
 use machine::Party;

@@ -1,8 +1,8 @@
 // 03 and 04: the two sides pay in. 05: the customer takes back what the merchant has not matched.
-use crate::checks::ruled;
-use crate::checks::tested;
-use crate::checks::unjudged;
-use crate::signatures::sealed;
+use checks::ruled;
+use checks::tested;
+use checks::unjudged;
+use checks::sealed;
 use machine::Cents;
 use machine::Channel;
 use machine::Ruled;

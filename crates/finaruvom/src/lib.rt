@@ -51,10 +51,7 @@ pub extern "C" fn finaruvom_open(book: &mut Book, id: &[u8]) -> u8
     ensures { λ r. ⌜ (r ≡ opening (now (book .entry)) (now (id .entry)) .refusal)
         × (now (book .exit) ≡ opening (now (book .entry)) (now (id .entry)) .book) ⌝ }
 {
-    let lent = *book;
-    let done = arbiter::opened(lent, id);
-    *book = done.book;
-    done.refusal
+    arbiter::open(book, id)
 }
 
 // Carries a command out on the lent book, or refuses it and keeps every value.
@@ -63,10 +60,7 @@ pub extern "C" fn finaruvom_apply(book: &mut Book, command: &[u8]) -> Answer
     ensures { λ r. ⌜ (r ≡ realStep (now (book .entry)) (now (command .entry)) .answer)
         × (now (book .exit) ≡ realStep (now (book .entry)) (now (command .entry)) .book) ⌝ }
 {
-    let lent = *book;
-    let stepped = arbiter::step(lent, command);
-    *book = stepped.book;
-    stepped.answer
+    arbiter::apply(book, command)
 }
 
 // A reading of channel n: 99 and zeros of an unsound book, 4 and zeros for n from 64 on.
@@ -74,8 +68,7 @@ pub extern "C" fn finaruvom_apply(book: &mut Book, command: &[u8]) -> Answer
 pub extern "C" fn finaruvom_read(book: &Book, n: usize) -> Reading
     ensures { λ r. ⌜ r ≡ reading (now (book .entry)) n ⌝ }
 {
-    let lent = *book;
-    arbiter::read_of(lent, n)
+    arbiter::read(book, n)
 }
 
 // The channel that is due next; 0 where there is none.

@@ -9,7 +9,6 @@ use Rattle.machine.specs.Real.{realStep}
 use Rattle.machine.specs.declared.state.Book.{Book}
 use Rattle.journal.specs.declared.lines.Line.{Line}
 use Rattle.journal.specs.declared.next.Ahead.{Ahead}
-use Rattle.journal.specs.declared.turns.Turned.{Turned}
 use Rattle.journal.specs.declared.runs.Ran.{Ran}
 
 -- ---- what comes next
@@ -42,6 +41,10 @@ aheadOf at x = record { goes = x .goes; cause = x .cause; end = at + x .size }
 -- ---- a run
 
 -- One command: a line holds its answer.
+pub record Turned : Type 0 where
+  pub book : Book
+  pub line : Line
+
 unfoldable pub turnedOf : Book → List ℕ → Turned
 turnedOf b s = record { book = (realStep b s) .book; line = record { answer = (realStep b s) .answer } }
 

@@ -1,10 +1,10 @@
--- What a list of checks that all say yes tells, and what makes it accept.
-use mathlib.Core.Path.{_≡_, refl, sym, _∙_}
+-- What a list of checks that all say yes tells, what makes it accept, and that a no ends it.
+use mathlib.Core.Path.{_≡_, refl, sym, ap, _∙_}
 use mathlib.Core.Bool.{Bool, true, false, cond, not, _&&_}
 use mathlib.Core.List.{List, [], _∷_}
 use Prim.Native.Nat.{ℕ}
 use lib.Dec.{eqb}
-use borrow.Author.Tests.{eq-eqb, eqb-true, eqb-false, not-true}
+use borrow.Author.Tests.{eq-eqb, ne-eqb, eqb-true, eqb-false, not-true}
 use Rattle.machine.specs.Checks.{Check, test, signed, passed, ask, judge}
 use Rattle.machine.specs.declared.answers.Judged.{Judged}
 use Rattle.machine.proofs.Laws.{and-both}
@@ -48,3 +48,12 @@ unfolding ask
 passed-judge [] j p h = h
 passed-judge (test r ok ∷ l) j p h = passed-judge l (ask j (test r ok)) (p .1) (rw (eq-eqb _ _ h, p .0) h)
 passed-judge (signed r v ∷ l) j p h = passed-judge l (ask j (signed r v)) (p .1) (rw (eq-eqb _ _ h, p .0) h)
+
+-- Where a check said no, no other is made.
+pub ask-stop : (j : Judged) (k : Check) → (j .refusal ≡ 0 → ⊥) → ask j k ≡ j
+unfolding ask
+ask-stop j k h = rw (ne-eqb _ _ h)
+
+pub judge-stop : (l : List Check) (j : Judged) → (j .refusal ≡ 0 → ⊥) → judge j l ≡ j
+judge-stop [] j h = refl
+judge-stop (k ∷ l) j h = ap (λ (i : Judged). judge i l) (ask-stop j k h) ∙ judge-stop l j h

@@ -12,15 +12,7 @@ use Rattle.machine.specs.Machine.{answer, concluded, ruling, Order, form
 use Rattle.machine.specs.WrongTurns.{refusal, WrongTurns}
 use Rattle.machine.specs.declared.state.Book.{Book}
 use Rattle.machine.specs.declared.answers.Judged.{Judged}
-
--- Where a check said no, no other is made.
-ask-stop : (j : Judged) (k : Check) → (j .refusal ≡ 0 → ⊥) → ask j k ≡ j
-unfolding ask
-ask-stop j k h = rw (ne-eqb _ _ h)
-
-judge-stop : (l : List Check) (j : Judged) → (j .refusal ≡ 0 → ⊥) → judge j l ≡ j
-judge-stop [] j h = refl
-judge-stop (k ∷ l) j h = ap (λ (i : Judged). judge i l) (ask-stop j k h) ∙ judge-stop l j h
+use Rattle.machine.proofs.Judging.{judge-stop}
 
 carried-stops : (j : Judged) (b : Book) (o : Order) → (j .refusal ≡ 0 → ⊥) → carried j b o ≡ record { book = b; answer = refusal (j .refusal) (j .steps) }
 unfolding answer

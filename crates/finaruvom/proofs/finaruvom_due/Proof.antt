@@ -1,7 +1,7 @@
 -- `finaruvom_due` meets its contract, by the walk of `Looking`: the form by value is `next_due`.
 use denote.Struct.Laws as LL
 use Rattle.machine.specs.Due.{due}
-use Rattle.arbiter.proofs.Looking.{Returned, looking-meets}
+use Rattle.lending.proofs.Looking.{Returned, looking-meets}
 use Rattle.finaruvom.specs.Fields.{fieldsOf}
 use Rattle.finaruvom.proofs.NextDue as N
 use Rattle.finaruvom.proofs.NextDue.Laws as N′

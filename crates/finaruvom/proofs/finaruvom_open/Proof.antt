@@ -1,9 +1,9 @@
--- `finaruvom_open` meets its contract, by the walk of `Lending`: the form by value is `opened`.
+-- `finaruvom_open` meets its contract, which is `open`'s: it passes the book and the id on, by the walk of `Lending`.
 use Rattle.machine.specs.Book.{opening}
-use Rattle.arbiter.proofs.Lending.{lent-meets}
+use Rattle.lending.proofs.Lending.{passed-meets}
 use Rattle.arbiter.proofs.Outcomes.{opened}
-use Rattle.arbiter.proofs.opened.Symbol as opened-def
-use Rattle.arbiter.proofs.opened.Met as opened-thm
+use Rattle.arbiter.proofs.open.Symbol as open-def
+use Rattle.arbiter.proofs.open.Met as open-thm
 use Rattle.finaruvom.proofs.finaruvom_open.Key as key
 use Rattle.finaruvom.proofs.finaruvom_open.Statement.{statement}
 use Rattle.finaruvom.proofs.finaruvom_open.Code as code
@@ -11,4 +11,4 @@ use Rattle.finaruvom.proofs.finaruvom_open.Code as code
 pub finaruvom-open-spec : {M : Type 1} → statement M
 unfolding code.routine
 finaruvom-open-spec 𝓤 H 𝓜 𝓖 𝓡 =
-    lent-meets opened opening opened-def.name 𝓤 H 𝓜 𝓖 𝓡 code.env key.name (code.unfolded 𝓤 H 𝓜 𝓡) opened-def.routine code.calls-arbiter·opened (opened-thm.met 𝓤 H 𝓜 𝓖 𝓡)
+    passed-meets opened opening open-def.name 𝓤 H 𝓜 𝓖 𝓡 code.env key.name (code.unfolded 𝓤 H 𝓜 𝓡) open-def.routine code.calls-arbiter·open (open-thm.met 𝓤 H 𝓜 𝓖 𝓡)

@@ -1,6 +1,6 @@
 -- `arbiter::lent::apply` meets its contract, by the walk of `Lending`: the form by value is `step`.
 use Rattle.machine.specs.Real.{realStep}
-use Rattle.arbiter.proofs.Lending.{lent-meets}
+use Rattle.lending.proofs.Lending.{lent-meets}
 use Rattle.arbiter.proofs.Outcomes.{stepped}
 use Rattle.arbiter.proofs.steps.step.Symbol as step-def
 use Rattle.arbiter.proofs.steps.step.Met as step-thm

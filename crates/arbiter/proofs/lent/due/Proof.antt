@@ -1,6 +1,6 @@
 -- `arbiter::lent::due` meets its contract, by the walk of `Looking`: the form by value is `due_of`.
 use Rattle.machine.specs.Due.{due}
-use Rattle.arbiter.proofs.Looking.{looking-meets}
+use Rattle.lending.proofs.Looking.{looking-meets}
 use Rattle.arbiter.proofs.Outcomes.{found}
 use Rattle.arbiter.proofs.next.due_of.Symbol as due-of-def
 use Rattle.arbiter.proofs.next.due_of.Met as due-of-thm

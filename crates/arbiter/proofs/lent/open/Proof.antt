@@ -1,6 +1,6 @@
 -- `arbiter::lent::open` meets its contract, by the walk of `Lending`: the form by value is `opened`.
 use Rattle.machine.specs.Book.{opening}
-use Rattle.arbiter.proofs.Lending.{lent-meets}
+use Rattle.lending.proofs.Lending.{lent-meets}
 use Rattle.arbiter.proofs.Outcomes.{opened}
 use Rattle.arbiter.proofs.opening.opened.Symbol as opened-def
 use Rattle.arbiter.proofs.opening.opened.Met as opened-thm

@@ -1,6 +1,6 @@
 -- `arbiter::lent::read` meets its contract, by the walk of `Looking`: the form by value is `read_of`.
 use Rattle.machine.specs.Book.{reading}
-use Rattle.arbiter.proofs.Looking.{looking-at-meets}
+use Rattle.lending.proofs.Looking.{looking-at-meets}
 use Rattle.arbiter.proofs.Outcomes.{read}
 use Rattle.arbiter.proofs.readings.read_of.Symbol as read-of-def
 use Rattle.arbiter.proofs.readings.read_of.Met as read-of-thm

@@ -1,105 +1,152 @@
-use Prim.Native.Nat.{ℕ, _≤_}
+-- The loop tests the channels one by one. After the shared checks there are four ways to the one return: a 01, a command of a channel, a far channel, and a refusal.
+use Prim.Native.Nat.{ℕ, _-_, _≤_}
 use mathlib.Core.Path.{_≡_, sym, _∙_}
+use mathlib.Core.List.{List, []}
 use native.Mathlib.Omega.{arith}
-use Rattle.machine.specs.Format.{size}
-use Rattle.arbiter.proofs.SoundBook.{sound-at, sound-clock}
-use Rattle.arbiter.proofs.Stepping.{shared-by, shared-ok, least, step-stops, step-clock, step-far, step-channel}
+use lib.ListN.{length}
+use Rattle.machine.specs.Format.{opcode, size}
+use Rattle.machine.specs.Checks.{clean, judge}
+use Rattle.machine.specs.Machine.{shared}
+use Rattle.machine.specs.declared.state.Book.{Book}
+use Rattle.arbiter.proofs.SoundBook.{sound-at, sound-clock, length-of-map, Tested, tested-none, tested-more, tested-all}
+use Rattle.arbiter.proofs.Stepping.{Shared, shared-by, shared-ok, least, step-stops, step-clock, step-far, step-channel}
 use borrow.Author.Needs.{needs}
 use Rattle.arbiter.proofs.steps.step.Statement.{statement}
 use Rattle.arbiter.proofs.steps.step.Tie as tie
 
+abbrev Inv-loop : tie.InvT-loop
+Inv-loop command book steady₀ i₀ steady i = Tested book steady i
+
+abbrev μ-loop : tie.MeasureT-loop
+μ-loop command book steady₀ i₀ steady i = 64 - i
+
+loop-holds : tie.Need-loop-holds Inv-loop μ-loop
+loop-holds c = tested-none (c .before .before .before .args .t1) _ (c .marked .ensures)
+
+module _ (l : tie.At-loop Inv-loop μ-loop) where
+  abbrev book : Book
+  book = l .before .before .before .before .args .t1
+
+  abbrev command : List ℕ
+  command = l .before .before .before .before .args .command .now
+
+  all-64 : length (book .channels) ≡ 64
+  all-64 = search (needs, length-of-map)
+
+loop-again : tie.Need-loop-again Inv-loop μ-loop
+loop-again c =
+    let t = c .before .before in
+    let l = t .before in
+    tested-more (book l) (all-64 l) (l .loop .steady) (l .loop .i) (l .loop .inv) _ (t .loop-test .taken) (c .sound-channel .ensures)
+
+-- The checks that all commands share are made.
+module _ (k : tie.After-shared-checks Inv-loop μ-loop) where
+  abbrev b : Book
+  b = book (k .before .before .before)
+
+  abbrev s : List ℕ
+  s = command (k .before .before .before)
+
+  checked : k .shared-checks .result ≡ judge clean (shared b s [])
+  checked =
+      let l = k .before .before .before in
+      shared-by b s _ _ (tested-all b (all-64 l) (l .loop .steady) (l .loop .i) (l .loop .inv) (k .before .before .loop-test .left)) (k .shared-checks .ensures .0)
+
+  op-is : k .before .opcode-of .result ≡ opcode s
+  op-is = k .before .opcode-of .ensures
+
+-- They said yes.
+agreed : (y : tie.Then1 Inv-loop μ-loop) → Shared (b (y .before .before .before)) (s (y .before .before .before))
+agreed y = shared-ok _ _ _ (checked (y .before .before .before)) (y .if1 .taken)
+
+u64-at-requires : tie.Need-u64-at-requires Inv-loop μ-loop
+unfolding size
+u64-at-requires c κs =
+    let y = c .before .before in
+    omega (arith, rw (sym (op-is (y .before .before .before)) ∙ c .before .if2 .taken) at (agreed y .sized))
+
+u16-at-requires : tie.Need-u16-at-requires Inv-loop μ-loop
+u16-at-requires c κs =
+    let h = agreed (c .before) in
+    omega (arith, least _ (h .low) (h .high))
+
 second : (op : ℕ) → 1 ≤ op → (op ≡ 1 → ⊥) → 2 ≤ op
 second op h n = omega arith
 
-returns : tie.Need-returns
-returns c =
-    let k = c .before .before .before in
-    let s = k .before .before .before .before .args .command .now in
-    let e = shared-by _ s _ _ (k .before .sound .ensures) (k .shared-checks .ensures .0) in
-    rw (c .answered .ensures) (step-stops _ _ _ s _ e (c .before .if1 .taken))
-
-u64-at-requires : tie.Need-u64-at-requires
-unfolding size
-u64-at-requires c κs =
-    let k = c .before .before .before .before in
-    let s = k .before .before .before .before .args .command .now in
-    let e = shared-by _ s _ _ (k .before .sound .ensures) (k .shared-checks .ensures .0) in
-    let op = k .before .before .opcode-of .ensures in
-    let h = shared-ok _ s _ e (c .before .before .if1 .left) in
-    omega (arith, rw (sym op ∙ c .before .if2 .taken) at (h .sized))
-
-returns-2 : tie.Need-returns-2
-returns-2 c =
-    let c₂ = c .before .before in
-    let c₅ = c₂ .before .before .before in
-    let k = c .before .before .before .before .before .before .before .before in
-    let s = k .before .before .before .before .args .command .now in
-    let e = shared-by _ s _ _ (k .before .sound .ensures) (k .shared-checks .ensures .0) in
-    let op = k .before .before .opcode-of .ensures in
-    step-clock _ _ _ s _ e (c₅ .before .if1 .left) (k .shared-checks .ensures .1) (sym op ∙ c₅ .if2 .taken) _ (c₂ .set-clock .ensures ∙ rw (c₂ .before .u64-at .ensures))
-
-u16-at-requires : tie.Need-u16-at-requires
-u16-at-requires c κs =
-    let k = c .before .before .before in
-    let s = k .before .before .before .before .args .command .now in
-    let e = shared-by _ s _ _ (k .before .sound .ensures) (k .shared-checks .ensures .0) in
-    let h = shared-ok _ s _ e (c .before .if1 .left) in
-    omega (arith, least _ (h .low) (h .high))
-
-returns-3 : tie.Need-returns-3
-returns-3 c =
-    let c₂ = c .before .before in
-    let c₃ = c₂ .before in
-    let c₄ = c₃ .before in
-    let k = c .before .before .before .before .before .before .before in
-    let s = k .before .before .before .before .args .command .now in
-    let e = shared-by _ s _ _ (k .before .sound .ensures) (k .shared-checks .ensures .0) in
-    let op = k .before .before .opcode-of .ensures in
-    rw (c .answered2 .ensures) (step-far _ _ _ s _ e (c₄ .before .if1 .left) (k .shared-checks .ensures .1) (λ z. c₄ .if2 .left (op ∙ z)) (rw (← c₃ .u16-at .ensures) (c₂ .if3 .taken)) _ (c .before .tested .ensures .0))
-
-rule-requires : tie.Need-rule-requires
+rule-requires : tie.Need-rule-requires Inv-loop μ-loop
 rule-requires c κs =
-    let c₅ = c .before .before .before .before .before in
-    let k = c .before .before .before .before .before .before .before .before in
-    let s = k .before .before .before .before .args .command .now in
-    let e = shared-by _ s _ _ (k .before .sound .ensures) (k .shared-checks .ensures .0) in
-    let op = k .before .before .opcode-of .ensures in
-    let h = shared-ok _ s _ e (c₅ .before .if1 .left) in
-    (rw op (second _ (h .low) (λ z. c₅ .if2 .left (op ∙ z))), rw op (h .high), rw op (h .sized), sound-at _ _ (h .steady), sound-clock _ (h .steady))
+    let e = c .before .before .before .before .before in
+    let h = agreed (e .before) in
+    let op = op-is (e .before .before .before .before) in
+    (rw op (second _ (h .low) (λ z. e .if2 .left (op ∙ z))), rw op (h .high), rw op (h .sized), sound-at _ _ (h .steady), sound-clock _ (h .steady))
 
-returns-4 : tie.Need-returns-4
+-- A 01.
+returns : tie.Need-returns Inv-loop μ-loop
+returns c =
+    let d = c .before .before in
+    let t = d .before .before .before in
+    let y = t .before in
+    let k = y .before .before .before in
+    step-clock _ _ (b k) (s k) _ (checked k) (y .if1 .taken) (k .shared-checks .ensures .1) (sym (op-is k) ∙ t .if2 .taken) _ (d .set-clock .ensures ∙ rw (d .before .u64-at .ensures))
+
+-- A command of a channel.
+returns-2 : tie.Need-returns-2 Inv-loop μ-loop
+returns-2 c =
+    let d = c .before .before in
+    let t = d .before .before .before .before in
+    let n = t .before in
+    let e = n .before in
+    let y = e .before in
+    let k = y .before .before .before in
+    rw (n .u16-at .ensures)
+    (step-channel _ _ (b k) (s k) _ (checked k) (y .if1 .taken) (k .shared-checks .ensures .1) (λ z. e .if2 .left (op-is k ∙ z)) (rw (← n .u16-at .ensures) (t .if3 .taken)) _ (d .rule .ensures ∙ rw (op-is k, n .u16-at .ensures)))
+
+-- A channel that is far.
+returns-3 : tie.Need-returns-3 Inv-loop μ-loop
+returns-3 c =
+    let t = c .before .before in
+    let n = t .before in
+    let e = n .before in
+    let y = e .before in
+    let k = y .before .before .before in
+    rw (c .answered2 .ensures)
+    (step-far _ _ (b k) (s k) _ (checked k) (y .if1 .taken) (k .shared-checks .ensures .1) (λ z. e .if2 .left (op-is k ∙ z)) (rw (← n .u16-at .ensures) (t .if3 .left)) _ (c .before .tested .ensures .0))
+
+-- A refusal.
+returns-4 : tie.Need-returns-4 Inv-loop μ-loop
 returns-4 c =
-    let c₂ = c .before .before in
-    let c₆ = c₂ .before .before .before .before in
-    let c₇ = c₆ .before in
-    let c₈ = c₇ .before in
-    let k = c .before .before .before .before .before .before .before .before .before .before .before in
-    let s = k .before .before .before .before .args .command .now in
-    let e = shared-by _ s _ _ (k .before .sound .ensures) (k .shared-checks .ensures .0) in
-    let op = k .before .before .opcode-of .ensures in
-    rw (c₇ .u16-at .ensures)
-    (step-channel _ _ _ s _ e (c₈ .before .if1 .left) (k .shared-checks .ensures .1) (λ z. c₈ .if2 .left (op ∙ z)) (rw (← c₇ .u16-at .ensures) (c₆ .if3 .left)) _ (c₂ .rule .ensures ∙ rw (op, c₇ .u16-at .ensures)))
+    let k = c .before .before .before in
+    rw (c .before .before .answered .ensures) (step-stops _ _ (b k) (s k) _ (checked k) (c .if1 .left))
 
 pub step-spec : {M : Type 1} → statement M
 step-spec =
     tie.close
     (tie.spec
+    Inv-loop
+    μ-loop
+    (λ c κs. search needs)
+    loop-holds
+    (λ c. omega arith)
+    (λ c. omega arith)
+    (λ c κs. tt)
+    (λ c. omega arith)
+    (λ c. omega arith)
+    loop-again
     (λ c κs. search needs)
     (λ c κs. search needs)
     (λ c κs. search needs)
-    (λ c κs. search needs)
-    returns
     u64-at-requires
     (λ c κs. search needs)
-    returns-2
     u16-at-requires
     (λ c. search needs)
-    (λ c κs. search needs)
-    (λ c κs. search needs)
-    returns-3
     (λ c. search needs)
     (λ c. search needs)
     rule-requires
     (λ c. search needs)
     (λ c. search needs)
+    (λ c κs. search needs)
+    (λ c κs. search needs)
+    returns
+    returns-2
+    returns-3
     returns-4)

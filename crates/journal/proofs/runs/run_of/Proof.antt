@@ -49,7 +49,7 @@ use denote.Exit.{yes}
 use Rattle.machine.specs.declared.state.Book.{Book}
 use Rattle.machine.proofs.state.Book as B
 use Rattle.machine.proofs.state.Book.Laws as B′
-use Rattle.arbiter.proofs.Lending.{bv, IsBook, book-typed, owns-book, spells-book, by-walk}
+use Rattle.lending.proofs.Lending.{bv, IsBook, book-typed, owns-book, spells-book, by-walk}
 use Rattle.journal.specs.Runs.{Done, runOf, ranOf}
 use Rattle.journal.specs.declared.lines.Line.{Line}
 use Rattle.journal.specs.declared.runs.Ran.{Ran}
@@ -254,5 +254,5 @@ pub run-of-spec : {M : Type 1} → statement M
 unfolding code.routine
 run-of-spec 𝓤 H 𝓜 𝓖 𝓡 =
     let W : Given 𝓤 H (𝓖 .A) = givenOf 𝓤 H 𝓜 𝓖 in
-    by-walk 𝓤 H 𝓜 𝓖 𝓡 f.ended stayed (f.clauses 𝓤 H (𝓖 .A) (𝓜 .mem) (𝓡 .run)) (goes 𝓤 H (𝓖 .A) W (𝓜 .mem) (𝓡 .run)) code.env key.name run-def.name code.function (code.unfolded 𝓤 H 𝓜 𝓡) (RunC 𝓤 H (𝓖 .A) W (𝓜 .mem) (𝓡 .run))
+    by-walk 𝓤 H 𝓜 𝓖 𝓡 code.env key.name run-def.name code.function (code.unfolded 𝓤 H 𝓜 𝓡) (RunC 𝓤 H (𝓖 .A) W (𝓜 .mem) (𝓡 .run)) f.ended stayed (f.clauses 𝓤 H (𝓖 .A) (𝓜 .mem) (𝓡 .run)) (goes 𝓤 H (𝓖 .A) W (𝓜 .mem) (𝓡 .run))
     (walks 𝓤 H (𝓖 .A) W (𝓜 .mem) (𝓡 .run)) run-def.routine code.calls-journal·runs·run (run-thm.met 𝓤 H 𝓜 𝓖 𝓡)

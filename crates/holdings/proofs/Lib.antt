@@ -1,0 +1,2 @@
+-- Laws of sums that cannot wrap.
+pub mod WholeSums
