@@ -1,7 +1,7 @@
 // What the library copies: the linker sends every call of memcpy and memmove here (-Wl,--wrap=memcpy,--wrap=memmove).
 #include "../include/finaruvom.h"
 
-// Bytes copied, and copies of a whole book.
+// Bytes copied, and copies of a whole book or of all its channels.
 static size_t copied, books_copied;
 
 void *__real_memcpy(void *to, const void *from, size_t n);
@@ -9,7 +9,7 @@ void *__real_memmove(void *to, const void *from, size_t n);
 
 static void count_copy(size_t n) {
     copied += n;
-    books_copied += n >= sizeof(struct finaruvom_book);
+    books_copied += n >= sizeof((struct finaruvom_book *)0)->channels;
 }
 
 void *__wrap_memcpy(void *to, const void *from, size_t n) {

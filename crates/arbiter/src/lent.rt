@@ -2,7 +2,7 @@
 use crate::next::due_of;
 use crate::opening::opened;
 use crate::readings::read_of;
-use crate::steps::step;
+use command::step;
 use machine::Answer;
 use machine::Book;
 use machine::Found;

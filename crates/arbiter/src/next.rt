@@ -1,5 +1,5 @@
 // The channel that is due next.
-use crate::soundness::sound;
+use command::sound;
 use machine::Book;
 use machine::Channel;
 use machine::Found;

@@ -1,5 +1,5 @@
 // A reading of one channel of a book.
-use crate::soundness::sound;
+use command::sound;
 use holdings::read_channel;
 use holdings::unread;
 use machine::Book;

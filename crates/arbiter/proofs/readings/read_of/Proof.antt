@@ -1,7 +1,7 @@
 use mathlib.Core.Path.{sym, _∙_}
 use borrow.Author.Tests.{lt-ltb, le-ltb, not-true, not-false}
 use Rattle.machine.specs.Book.{reading}
-use Rattle.arbiter.proofs.SoundBook.{sound-at}
+use Rattle.command.proofs.SoundBook.{sound-at}
 use borrow.Author.Needs.{needs}
 use Rattle.arbiter.proofs.readings.read_of.Statement.{statement}
 use Rattle.arbiter.proofs.readings.read_of.Tie as tie

@@ -1,0 +1,119 @@
+// 06 to 0A on one channel: how it is closed, and what each way pays. Only the product's own parts call it.
+use checks::ruled;
+use checks::sealed;
+use checks::tested;
+use checks::unjudged;
+use checks::unlocked;
+use holdings::cents_if;
+use holdings::sums_to;
+use holdings::total_of;
+use machine::Cents;
+use machine::Channel;
+use machine::Ruled;
+use machine::Seconds;
+use wire::digest_at;
+use wire::u64_at;
+ghost use mathlib.Core.Path.{_≡_};
+ghost use mathlib.Core.Bool.{true};
+ghost use Prim.Native.Nat.{_+_, _≤_};
+ghost use lib.ListN.{length};
+ghost use Rattle.sha256.specs.Digest.{sha256};
+ghost use Rattle.machine.specs.Format.{lock, secret, customerPart, merchantPart};
+ghost use Rattle.machine.specs.Book.{seconds, limit, soundChannel};
+ghost use Rattle.machine.specs.Rules.{mutualClose, customerClose, merchantClose, dispute, settle};
+ghost use Rattle.machine.specs.Machine.{ruling, verdict};
+ghost use Rattle.machine.specs.Real.{lmsVerdict};
+
+// 06
+pub fn mutual_close(ch: Channel, id: [u8; 16], command: &[u8]) -> Ruled
+    requires { ⌜ (soundChannel ch ≡ true) × (length (now command) ≡ 2923) ⌝ }
+    ensures { λ r. ⌜ r ≡ ruling ch (mutualClose (customerPart 6 (now (command .entry))) (merchantPart 6 (now (command .entry))) (verdict lmsVerdict (ch .merchant .key) id (now (command .entry)) 19 19) (verdict lmsVerdict (ch .customer .key) id (now (command .entry)) 19 1471) ch) ⌝ }
+{
+    let customer_key = ch.customer.key;
+    let merchant_key = ch.merchant.key;
+    let customer = Cents(u64_at(command, 3));
+    let merchant = Cents(u64_at(command, 11));
+    let j = tested(unjudged(), 5, ch.status == 3);
+    let j = tested(j, 8, sums_to(customer, merchant, total_of(ch)));
+    let j = sealed(j, 11, merchant_key, id, command, 19, 19);
+    let j = sealed(j, 12, customer_key, id, command, 19, 1471);
+    let mut after = ch;
+    after.status = 6;
+    ruled(j, ch, after, customer, merchant)
+}
+
+fn deadline_from(clock: Seconds, delay: u32) -> Seconds
+    requires { ⌜ clock .0 ≤ limit ⌝ }
+    ensures { λ r. ⌜ r ≡ seconds (clock .0 + delay) ⌝ }
+{
+    Seconds(clock.0 + delay as u64)
+}
+
+// 07
+pub fn customer_close(ch: Channel, id: [u8; 16], clock: Seconds, command: &[u8]) -> Ruled
+    requires { ⌜ (soundChannel ch ≡ true) × (clock .0 ≤ limit) × (length (now command) ≡ 2955) ⌝ }
+    ensures { λ r. ⌜ r ≡ ruling ch (customerClose (clock .0) (lock (now (command .entry))) (customerPart 7 (now (command .entry))) (merchantPart 7 (now (command .entry))) (verdict lmsVerdict (ch .merchant .key) id (now (command .entry)) 51 51) (verdict lmsVerdict (ch .customer .key) id (now (command .entry)) 51 1503) ch) ⌝ }
+{
+    let customer_key = ch.customer.key;
+    let merchant_key = ch.merchant.key;
+    let customer = Cents(u64_at(command, 35));
+    let merchant = Cents(u64_at(command, 43));
+    let j = tested(unjudged(), 5, (ch.status == 3) | (ch.status == 4));
+    let j = tested(j, 8, sums_to(customer, merchant, total_of(ch)));
+    let j = tested(j, 9, (ch.status == 3) | (clock.0 < ch.deadline.0));
+    let j = sealed(j, 11, merchant_key, id, command, 51, 51);
+    let j = sealed(j, 12, customer_key, id, command, 51, 1503);
+    let lock = digest_at(command, 3);
+    let deadline = deadline_from(clock, ch.delay);
+    let mut after = ch;
+    after.status = 5;
+    after.deadline = deadline;
+    after.kept = customer;
+    after.lock = lock;
+    ruled(j, ch, after, Cents(0), merchant)
+}
+
+// 08
+pub fn merchant_close(ch: Channel, id: [u8; 16], clock: Seconds, command: &[u8]) -> Ruled
+    requires { ⌜ (clock .0 ≤ limit) × (length (now command) ≡ 1455) ⌝ }
+    ensures { λ r. ⌜ r ≡ ruling ch (merchantClose (clock .0) (verdict lmsVerdict (ch .merchant .key) id (now (command .entry)) 3 3) ch) ⌝ }
+{
+    let key = ch.merchant.key;
+    let j = tested(unjudged(), 5, ch.status == 3);
+    let j = sealed(j, 11, key, id, command, 3, 3);
+    let deadline = deadline_from(clock, ch.delay);
+    let mut after = ch;
+    after.status = 4;
+    after.deadline = deadline;
+    ruled(j, ch, after, Cents(0), Cents(0))
+}
+
+// 09
+pub fn dispute(ch: Channel, id: [u8; 16], clock: Seconds, command: &[u8]) -> Ruled
+    requires { ⌜ length (now command) ≡ 1487 ⌝ }
+    ensures { λ r. ⌜ r ≡ ruling ch (dispute (clock .0) (sha256 (secret (now (command .entry)))) (verdict lmsVerdict (ch .merchant .key) id (now (command .entry)) 35 35) ch) ⌝ }
+{
+    let lock = ch.lock;
+    let key = ch.merchant.key;
+    let j = tested(unjudged(), 5, ch.status == 5);
+    let j = tested(j, 9, clock.0 < ch.deadline.0);
+    let j = unlocked(j, lock, command);
+    let j = sealed(j, 11, key, id, command, 35, 35);
+    let mut after = ch;
+    after.status = 6;
+    ruled(j, ch, after, Cents(0), ch.kept)
+}
+
+// 0A
+pub fn settle(ch: Channel, clock: Seconds) -> Ruled
+    requires { ⌜ soundChannel ch ≡ true ⌝ }
+    ensures { λ r. ⌜ r ≡ ruling ch (settle (clock .0) ch) ⌝ }
+{
+    let j = tested(unjudged(), 5, (ch.status == 4) | (ch.status == 5));
+    let j = tested(j, 9, ch.deadline.0 <= clock.0);
+    let mut after = ch;
+    after.status = 6;
+    let customer = cents_if(ch.status != 4, ch.kept);
+    let merchant = cents_if(ch.status == 4, total_of(ch));
+    ruled(j, ch, after, customer, merchant)
+}
