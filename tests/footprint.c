@@ -7,7 +7,7 @@
 #include <string.h>
 #include <ucontext.h>
 
-enum { N = 5, CLOCK = 1000, STACK = 1 << 18, PAINT = 0xA5 };
+enum { N = 5, CLOCK = 1000, STACK = 1 << 18, PAINT = 0xA5, MUTUAL = 5 };
 
 static struct finaruvom_book book;
 static uint8_t command[2955];
@@ -99,6 +99,10 @@ static void run(void) {
     ran = finaruvom_run(&book, settle, sizeof settle, lines, 3);
 }
 
+static void run_filed(void) {
+    ran = finaruvom_run(&book, command, command_n, lines, 3);
+}
+
 static void open_book(void) {
     static const uint8_t id[16] = {9};
     answer.refusal = finaruvom_open(&book, id, 16);
@@ -152,6 +156,10 @@ static bool ran_all(void) {
     return ran.lines == 3 && ran.cause == 0 && lines[2].answer.customer == 700;
 }
 
+static bool ran_filed(void) {
+    return ran.lines == 1 && ran.cause == 0 && lines[0].answer.refusal == 11 && lines[0].answer.steps != 0;
+}
+
 static bool answered_0(void) {
     return answer.refusal == 0;
 }
@@ -165,7 +173,10 @@ int main(void) {
         measure(row->name, apply, refused, 1, 2);
     }
     fill(5, CLOCK);
-    measure("a run, each command", run, ran_all, 3, 2);
+    measure("a run, each settle", run, ran_all, 3, 2);
+    fill(3, 0);
+    file(&rows[MUTUAL]);
+    measure("a run of an 06", run_filed, ran_filed, 1, 2);
     fill(5, CLOCK);
     measure("read", read_channel, answered_0, 1, 3);
     measure("due", due, answered_0, 1, 3);

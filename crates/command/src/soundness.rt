@@ -8,7 +8,7 @@ ghost use lib.Dec.{eqb, leb};
 ghost use Rattle.machine.specs.Book.{limit, theMark, sound};
 
 // What is asked of the book beside its channels.
-pub fn marked(mark: u64, clock: Seconds) -> bool
+pub fn sound_header(mark: u64, clock: Seconds) -> bool
     ensures { λ r. ⌜ r ≡ (eqb mark theMark && leb (clock .0) limit) ⌝ }
 {
     (mark == 0x6172626974657221) & (clock.0 <= 9223372036854775807)
@@ -17,7 +17,7 @@ pub fn marked(mark: u64, clock: Seconds) -> bool
 pub fn sound(book: Book) -> bool
     ensures { λ r. ⌜ r ≡ sound book ⌝ }
 {
-    let mut ok = marked(book.mark, book.clock);
+    let mut ok = sound_header(book.mark, book.clock);
     for i in 0..64 {
         let ch = book.channels[i];
         ok = ok & sound_channel(ch);

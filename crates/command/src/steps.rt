@@ -1,5 +1,5 @@
 // One command on one book.
-use crate::soundness::marked;
+use crate::soundness::sound_header;
 use channel::rule;
 use checks::answered;
 use checks::tested;
@@ -84,7 +84,7 @@ fn set_clock(now: Seconds, time: u64) -> Clocked
 pub fn step(mut book: Book, command: &[u8]) -> Stepped
     ensures { λ r. ⌜ r ≡ realStep book (now (command .entry)) ⌝ }
 {
-    let mut steady = marked(book.mark, book.clock);
+    let mut steady = sound_header(book.mark, book.clock);
     for i in 0..64 {
         let ch = book.channels[i];
         steady = steady & sound_channel(ch);

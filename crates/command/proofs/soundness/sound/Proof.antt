@@ -15,7 +15,7 @@ abbrev μ-loop : tie.MeasureT-loop
 μ-loop book ok₀ i₀ ok i = 64 - i
 
 loop-holds : tie.Need-loop-holds Inv-loop μ-loop
-loop-holds c = tested-none (c .before .before .args .t1) _ (c .marked .ensures)
+loop-holds c = tested-none (c .before .before .args .t1) _ (c .sound-header .ensures)
 
 loop-again : tie.Need-loop-again Inv-loop μ-loop
 loop-again c =

@@ -21,7 +21,7 @@ abbrev μ-loop : tie.MeasureT-loop
 μ-loop command book steady₀ i₀ steady i = 64 - i
 
 loop-holds : tie.Need-loop-holds Inv-loop μ-loop
-loop-holds c = tested-none (c .before .before .before .args .t1) _ (c .marked .ensures)
+loop-holds c = tested-none (c .before .before .before .args .t1) _ (c .sound-header .ensures)
 
 module _ (l : tie.At-loop Inv-loop μ-loop) where
   abbrev book : Book
