@@ -1,5 +1,6 @@
-// Times commands without a signature on a full book, and a journal of them, beside the C baseline in one run, and counts the copies of the book and
-// the bytes that each makes. Both must leave equal books, answers and lines; a difference ends the run with status 1.
+// Times commands without a signature on a full book, and a journal of them, beside the C baseline, and counts the copies of the book and the bytes
+// that each makes. The two are timed in turn, in many passes, so that a busy moment of the machine slows both. Both must leave equal books,
+// answers and lines; a difference ends the run with status 1.
 #include "book.h"
 #include "copied.h"
 #include <stdio.h>
@@ -7,7 +8,7 @@
 #include <string.h>
 #include <time.h>
 
-enum { COUNT = 200, TRIES = 400 };
+enum { COUNT = 200, TRIES = 100, PASSES = 16 };
 
 static struct finaruvom_book full;
 
@@ -15,6 +16,10 @@ static double seconds(void) {
     struct timespec t;
     clock_gettime(CLOCK_MONOTONIC, &t);
     return t.tv_sec + 1e-9 * t.tv_nsec;
+}
+
+static double least(double a, double b) {
+    return a < b ? a : b;
 }
 
 typedef struct finaruvom_answer apply(struct finaruvom_book *, const uint8_t *, size_t);
@@ -46,9 +51,7 @@ static double timed(apply *f, const struct row *row, struct finaruvom_book *book
             *answer = f(&books[k % 4], row->bytes, row->n);
             books[k % 4].channels[5].status = row->status;
         }
-        double took = (seconds() - start) / COUNT;
-        if (took < best)
-            best = took;
+        best = least(best, (seconds() - start) / COUNT);
     }
     return best;
 }
@@ -58,7 +61,7 @@ static bool same(const struct finaruvom_answer *a, const struct finaruvom_answer
 }
 
 typedef struct finaruvom_ran run(struct finaruvom_book *, const uint8_t *, size_t, struct finaruvom_line *, size_t);
-enum { JOURNAL = 65536, LINES = JOURNAL / 3, RUNS = 20 };
+enum { JOURNAL = 65536, LINES = JOURNAL / 3, RUNS = 10 };
 static uint8_t journal[JOURNAL];
 static struct finaruvom_line c_lines[LINES], lines[LINES];
 
@@ -69,9 +72,7 @@ static double timed_run(run *f, struct finaruvom_line *out, struct finaruvom_ran
         book = full;
         double start = seconds();
         *ran = f(&book, journal, JOURNAL, out, LINES);
-        double took = seconds() - start;
-        if (took < best)
-            best = took;
+        best = least(best, seconds() - start);
     }
     return best;
 }
@@ -82,7 +83,11 @@ static int timed_journal(void) {
     fill(3);
     for (int i = 0; i < JOURNAL; i++)
         journal[i] = i % 3 == 0 ? 10 : i % 3 == 2 ? 5 : 0;
-    double c = timed_run(plain_run, c_lines, &b), l = timed_run(finaruvom_run, lines, &a);
+    double c = 1, l = 1;
+    for (int pass = 0; pass < PASSES; pass++) {
+        c = least(c, timed_run(plain_run, c_lines, &b));
+        l = least(l, timed_run(finaruvom_run, lines, &a));
+    }
     if (a.lines != LINES || b.lines != LINES || a.used != b.used || a.cause != b.cause)
         return 0;
     for (int i = 0; i < LINES; i++)
@@ -109,8 +114,11 @@ int main(void) {
         const struct row *row = &rows[i];
         struct finaruvom_answer a, b;
         fill(row->status);
-        double c = timed(plain_apply, row, plain, &b);
-        double l = timed(finaruvom_apply, row, books, &a);
+        double c = 1, l = 1;
+        for (int pass = 0; pass < PASSES; pass++) {
+            c = least(c, timed(plain_apply, row, plain, &b));
+            l = least(l, timed(finaruvom_apply, row, books, &a));
+        }
         if (a.refusal != row->refusal || !same(&a, &b) || memcmp(books, plain, sizeof books) != 0) {
             fprintf(stderr, "%s: the two differ\n", row->name);
             return 1;
