@@ -9,7 +9,7 @@ use machine::Found;
 use machine::Reading;
 ghost use mathlib.Core.Path.{_≡_};
 ghost use Rattle.machine.specs.Book.{opening, reading};
-ghost use Rattle.machine.specs.Due.{due};
+ghost use Rattle.machine.specs.Due.{valueOf, due};
 ghost use Rattle.machine.specs.Real.{realStep};
 
 // Makes any lent book fresh, with the id, and answers 0; an id that is not 16 bytes long gives 2 and keeps every value.
@@ -44,7 +44,7 @@ pub fn read(book: &Book, n: usize) -> Reading
 
 // The channel that is due next.
 pub fn due(book: &Book) -> Found
-    ensures { λ r. ⌜ r ≡ due (now (book .entry)) ⌝ }
+    ensures { λ r. ⌜ valueOf r ≡ due (now (book .entry)) ⌝ }
 {
     let lent = *book;
     due_of(lent)

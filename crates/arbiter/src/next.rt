@@ -6,7 +6,7 @@ use machine::Found;
 use machine::Seconds;
 use machine::Soonest;
 ghost use mathlib.Core.Path.{_≡_};
-ghost use Rattle.machine.specs.Due.{sooner, soonest, due};
+ghost use Rattle.machine.specs.Due.{sooner, soonest, valueOf, due};
 
 // Channel n, or the soonest of those after it.
 fn sooner_of(n: u8, ch: Channel, rest: Soonest) -> Soonest
@@ -43,7 +43,7 @@ fn soonest_of(book: Book) -> Soonest
 
 // None exactly when the book is unsound or no channel is closing.
 pub fn due_of(book: Book) -> Found
-    ensures { λ r. ⌜ r ≡ due book ⌝ }
+    ensures { λ r. ⌜ valueOf r ≡ due book ⌝ }
 {
     let best = soonest_of(book);
     if sound(book) & best.some {

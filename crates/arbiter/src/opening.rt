@@ -2,6 +2,7 @@
 use machine::Book;
 use machine::Cents;
 use machine::Channel;
+use machine::MARK;
 use machine::Opened;
 use machine::Party;
 use machine::Seconds;
@@ -52,7 +53,7 @@ fn fresh_book(id: [u8; 16]) -> Book
     let channel = unused_channel();
     let channels = [channel; 64];
     Book {
-        mark: 0x6172626974657221,
+        mark: MARK,
         id,
         clock: Seconds(0),
         channels,

@@ -7,5 +7,5 @@ pub use judging::answered;
 pub use judging::ruled;
 pub use judging::tested;
 pub use judging::unjudged;
-pub use secrets::unlocked;
-pub use signatures::sealed;
+pub use secrets::secret_tested;
+pub use signatures::signature_tested;

@@ -11,7 +11,7 @@ ghost use Rattle.sha256.specs.Digest.{sha256};
 ghost use Rattle.machine.specs.Format.{secret};
 ghost use Rattle.machine.specs.Checks.{test, ask};
 
-pub fn unlocked(j: Judged, lock: [u8; 32], command: &[u8]) -> Judged
+pub fn secret_tested(j: Judged, lock: [u8; 32], command: &[u8]) -> Judged
     requires { ⌜ 35 ≤ length (now command) ⌝ }
     ensures { λ r. ⌜ r ≡ ask j (test 10 (same (sha256 (secret (now (command .entry)))) lock)) ⌝ }
     ensures { λ r. ⌜ r .steps ≡ j .steps ⌝ }

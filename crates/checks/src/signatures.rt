@@ -24,7 +24,7 @@ fn signed_message(id: [u8; 16], command: &[u8], end: usize) -> [u8; 67]
 }
 
 // Is the signature at `at` good for the key and the signed message, whose operands end at `end`?
-pub fn sealed(
+pub fn signature_tested(
     j: Judged,
     refusal: u8,
     key: [u8; 56],

@@ -1,9 +1,9 @@
 // 06 to 0A on one channel: how it is closed, and what each way pays. Only the product's own parts call it.
 use checks::ruled;
-use checks::sealed;
+use checks::secret_tested;
+use checks::signature_tested;
 use checks::tested;
 use checks::unjudged;
-use checks::unlocked;
 use holdings::cents_if;
 use holdings::sums_to;
 use holdings::total_of;
@@ -35,8 +35,8 @@ pub fn mutual_close(ch: Channel, id: [u8; 16], command: &[u8]) -> Ruled
     let merchant = Cents(u64_at(command, 11));
     let j = tested(unjudged(), 5, ch.status == 3);
     let j = tested(j, 8, sums_to(customer, merchant, total_of(ch)));
-    let j = sealed(j, 11, merchant_key, id, command, 19, 19);
-    let j = sealed(j, 12, customer_key, id, command, 19, 1471);
+    let j = signature_tested(j, 11, merchant_key, id, command, 19, 19);
+    let j = signature_tested(j, 12, customer_key, id, command, 19, 1471);
     let mut after = ch;
     after.status = 6;
     ruled(j, ch, after, customer, merchant)
@@ -61,8 +61,8 @@ pub fn customer_close(ch: Channel, id: [u8; 16], clock: Seconds, command: &[u8])
     let j = tested(unjudged(), 5, (ch.status == 3) | (ch.status == 4));
     let j = tested(j, 8, sums_to(customer, merchant, total_of(ch)));
     let j = tested(j, 9, (ch.status == 3) | (clock.0 < ch.deadline.0));
-    let j = sealed(j, 11, merchant_key, id, command, 51, 51);
-    let j = sealed(j, 12, customer_key, id, command, 51, 1503);
+    let j = signature_tested(j, 11, merchant_key, id, command, 51, 51);
+    let j = signature_tested(j, 12, customer_key, id, command, 51, 1503);
     let lock = digest_at(command, 3);
     let deadline = deadline_from(clock, ch.delay);
     let mut after = ch;
@@ -80,7 +80,7 @@ pub fn merchant_close(ch: Channel, id: [u8; 16], clock: Seconds, command: &[u8])
 {
     let key = ch.merchant.key;
     let j = tested(unjudged(), 5, ch.status == 3);
-    let j = sealed(j, 11, key, id, command, 3, 3);
+    let j = signature_tested(j, 11, key, id, command, 3, 3);
     let deadline = deadline_from(clock, ch.delay);
     let mut after = ch;
     after.status = 4;
@@ -97,8 +97,8 @@ pub fn dispute(ch: Channel, id: [u8; 16], clock: Seconds, command: &[u8]) -> Rul
     let key = ch.merchant.key;
     let j = tested(unjudged(), 5, ch.status == 5);
     let j = tested(j, 9, clock.0 < ch.deadline.0);
-    let j = unlocked(j, lock, command);
-    let j = sealed(j, 11, key, id, command, 35, 35);
+    let j = secret_tested(j, lock, command);
+    let j = signature_tested(j, 11, key, id, command, 35, 35);
     let mut after = ch;
     after.status = 6;
     ruled(j, ch, after, Cents(0), ch.kept)

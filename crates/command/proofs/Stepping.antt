@@ -13,7 +13,7 @@ use Rattle.machine.specs.Book.{cents, seconds, sound, channel, withChannel, wit
 use Rattle.machine.specs.Checks.{Check, Verdict, test, clean, passed, ask, judge}
 use Rattle.machine.specs.Rules.{Plan}
 use Rattle.machine.specs.Machine.{answer, concluded, ruling, formed, shared, Order, carried, setClock, onChannel, planned, order, step}
-use Rattle.command.specs.Parts.{timed, clocked}
+use Rattle.command.specs.Parts.{clocked}
 use Rattle.machine.specs.declared.units.Cents.{Cents}
 use Rattle.machine.specs.declared.state.Channel.{Channel}
 use Rattle.machine.specs.declared.state.Book.{Book}
@@ -99,7 +99,7 @@ module _ (check : List ℕ → List ℕ → List ℕ → Verdict) (hash : List �
     pub step-clock : opcode s ≡ 1 → (d : Clocked) → d ≡ clocked (b .clock) (time s) → record { book = record { mark = b .mark; id = b .id; clock = d .clock; channels = b .channels }; answer = d .answer } ≡ step check hash b s
     step-clock o d q =
         ap (λ (x : Clocked). record { book = record { mark = b .mark; id = b .id; clock = x .clock; channels = b .channels }; answer = x .answer }) q
-        ∙ ap (λ (x : Book). record { book = x; answer = (clocked (b .clock) (time s)) .answer }) (clock-cond b (time s) (passed (timed (b .clock) (time s))))
+        ∙ ap (λ (x : Book). record { book = x; answer = (clocked (b .clock) (time s)) .answer }) (clock-cond b (time s) (passed (judge clean ((setClock b (time s)) .checks))))
         ∙ step-is (setClock b (time s)) _ (rw (eq-eqb _ _ o)) (ap (λ (x : Judged). judge x ((setClock b (time s)) .checks)) (is-clean j h k))
 
     module _ (o : opcode s ≡ 1 → ⊥) where

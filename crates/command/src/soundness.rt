@@ -1,6 +1,8 @@
 // Whether a book is sound: any values may stand in a lent one.
 use holdings::sound_channel;
 use machine::Book;
+use machine::LIMIT;
+use machine::MARK;
 use machine::Seconds;
 ghost use mathlib.Core.Path.{_≡_};
 ghost use mathlib.Core.Bool.{_&&_};
@@ -11,7 +13,7 @@ ghost use Rattle.machine.specs.Book.{limit, theMark, sound};
 pub fn sound_header(mark: u64, clock: Seconds) -> bool
     ensures { λ r. ⌜ r ≡ (eqb mark theMark && leb (clock .0) limit) ⌝ }
 {
-    (mark == 0x6172626974657221) & (clock.0 <= 9223372036854775807)
+    (mark == MARK) & (clock.0 <= LIMIT)
 }
 
 pub fn sound(book: Book) -> bool

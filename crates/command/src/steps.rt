@@ -9,6 +9,7 @@ use machine::Answer;
 use machine::Book;
 use machine::Cents;
 use machine::Judged;
+use machine::LIMIT;
 use machine::Seconds;
 use machine::Stepped;
 use wire::u16_at;
@@ -61,17 +62,13 @@ pub struct Clocked {
 }
 
 // 01
-fn set_clock(now: Seconds, time: u64) -> Clocked
-    ensures { λ r. ⌜ r ≡ clocked now time ⌝ }
+fn set_clock(clock: Seconds, time: u64) -> Clocked
+    ensures { λ r. ⌜ r ≡ clocked clock time ⌝ }
 {
-    let j = tested(
-        unjudged(),
-        3,
-        (now.0 <= time) & (time <= 9223372036854775807),
-    );
+    let j = tested(unjudged(), 3, (clock.0 <= time) & (time <= LIMIT));
     let answer = answered(j, Cents(0), Cents(0));
     if j.refusal != 0 {
-        return Clocked { clock: now, answer };
+        return Clocked { clock, answer };
     }
     Clocked {
         clock: Seconds(time),

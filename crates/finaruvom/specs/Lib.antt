@@ -1,2 +1,2 @@
--- What a C program sees of an enum.
+-- What a C program sees of due.
 pub mod Fields

@@ -1,6 +1,6 @@
 // 03 and 04: the two sides pay in. 05: the customer takes back what the merchant has not matched.
 use checks::ruled;
-use checks::sealed;
+use checks::signature_tested;
 use checks::tested;
 use checks::unjudged;
 use machine::Cents;
@@ -47,7 +47,7 @@ pub fn reclaim(ch: Channel, id: [u8; 16], command: &[u8]) -> Ruled
 {
     let key = ch.customer.key;
     let j = tested(unjudged(), 5, ch.status == 2);
-    let j = sealed(j, 12, key, id, command, 3, 3);
+    let j = signature_tested(j, 12, key, id, command, 3, 3);
     let mut after = ch;
     after.status = 6;
     ruled(j, ch, after, ch.customer.deposit, Cents(0))

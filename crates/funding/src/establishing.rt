@@ -3,10 +3,13 @@ use checks::ruled;
 use checks::tested;
 use checks::unjudged;
 use holdings::total_fits;
+use lms::typed_key;
 use machine::Cents;
 use machine::Channel;
+use machine::LONGEST;
 use machine::Party;
 use machine::Ruled;
+use machine::SHORTEST;
 use wire::key_at;
 use wire::same_key;
 use wire::u32_at;
@@ -21,10 +24,7 @@ ghost use Rattle.machine.specs.Machine.{customerOf, merchantOf, ruling};
 fn keys_fit(customer: [u8; 56], merchant: [u8; 56]) -> bool
     ensures { λ r. ⌜ r ≡ keyed customer merchant ⌝ }
 {
-    (u32_at(&customer, 0) == 6)
-        & (u32_at(&customer, 4) == 4)
-        & ((u32_at(&merchant, 0) == 6) & (u32_at(&merchant, 4) == 4))
-        & !same_key(customer, merchant)
+    typed_key(&customer) & typed_key(&merchant) & !same_key(customer, merchant)
 }
 
 // A delay of 0 stands for a day.
@@ -42,7 +42,11 @@ fn establish(ch: Channel, customer: Party, merchant: Party, delay: u32) -> Ruled
     let fits = total_fits(customer.deposit, merchant.deposit);
     let j = tested(unjudged(), 5, ch.status == 0);
     let j = tested(j, 6, keys_fit(customer_key, merchant_key));
-    let j = tested(j, 7, (delay == 0) | ((3600 <= delay) & (delay <= 2592000)));
+    let j = tested(
+        j,
+        7,
+        (delay == 0) | ((SHORTEST <= delay) & (delay <= LONGEST)),
+    );
     let j = tested(j, 8, (1 <= customer.deposit.0) & fits);
     let mut after = ch;
     after.status = 1;

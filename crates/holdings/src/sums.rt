@@ -1,6 +1,7 @@
 // Sums of cents that cannot wrap.
 use machine::Cents;
 use machine::Channel;
+use machine::LIMIT;
 ghost use mathlib.Core.Path.{_≡_};
 ghost use mathlib.Core.Bool.{true, cond};
 ghost use lib.Dec.{eqb, leb};
@@ -11,8 +12,8 @@ ghost use Rattle.machine.specs.Book.{cents, limit, total, soundChannel};
 pub fn total_fits(customer: Cents, merchant: Cents) -> bool
     ensures { λ r. ⌜ r ≡ leb (customer .0 + merchant .0) limit ⌝ }
 {
-    if customer.0 <= 9223372036854775807 {
-        merchant.0 <= 9223372036854775807 - customer.0
+    if customer.0 <= LIMIT {
+        merchant.0 <= LIMIT - customer.0
     } else {
         false
     }

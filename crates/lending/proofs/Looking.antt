@@ -48,14 +48,14 @@ pub record Returned (R : RattleType) : Type 2 where
 abbrev Held : {M : Type 1} (𝓤 : URA M) (R : RattleType) → Lft → Share → ℕ → ℕ → GName → Book → R .Denot → Val → List (Item 𝓤)
 Held 𝓤 R κ q b o γ h r w = ‵ (flft κ q) ∷ ‵ (fres γ (B.the-row .coded .code h)) ∷ ‵ (fshr-bor κ (λ s. partAt B.the-row s h b o)) ∷ ‵ (R .own r (w ∷ [])) ∷ []
 
--- A call that lends a book to a form by value.
-module _ {R : RattleType} (O : Returned R) (f : Book → R .Denot) (callee : Name) where
+-- A call that lends a book to a form by value; `Says` is what both promise of a book and a result.
+module _ {R : RattleType} (O : Returned R) (Says : Book → R .Denot → Type 0) (callee : Name) where
   -- The form by value: its contract.
   abbrev by-value : Ended
   by-value = record { signature = record { lifetimes = 0; outlives = []; params = plain (λ _. B.the-row) ∷ []; result = plain (λ _. R) }; kept = (yes, tt) }
 
   abbrev by-value-says : {M : Type 1} (𝓤 : URA M) → Clauses 𝓤 by-value
-  by-value-says 𝓤 κs a = record { ghost = Unit {0}; requires = λ _. emp 𝓤; ensures = λ _ r _. fact 𝓤 (r ≡ f (a .0)) }
+  by-value-says 𝓤 κs a = record { ghost = Unit {0}; requires = λ _. emp 𝓤; ensures = λ _ r _. fact 𝓤 (Says (a .0) r) }
 
   abbrev ByValue : {M : Type 1} (𝓤 : URA M) (H : Heap 𝓤) (A : Atoms 𝓤) → Contract 𝓤
   ByValue 𝓤 H A = tripleOf 𝓤 H A (by-value .signature) (closing 𝓤 H A by-value (by-value-says 𝓤))
@@ -65,7 +65,7 @@ module _ {R : RattleType} (O : Returned R) (f : Book → R .Denot) (callee : Nam
   looking = record { signature = record { lifetimes = 1; outlives = []; params = shrRefTo (0 ∷ []) tt (plain (λ _. B.the-row)) ∷ []; result = plain (λ _. R) }; kept = (yes, tt) }
 
   abbrev looking-says : {M : Type 1} (𝓤 : URA M) → Clauses 𝓤 looking
-  looking-says 𝓤 κs a = record { ghost = Unit {0}; requires = λ _. emp 𝓤; ensures = λ _ r _. fact 𝓤 (r ≡ f (now (a .0))) }
+  looking-says 𝓤 κs a = record { ghost = Unit {0}; requires = λ _. emp 𝓤; ensures = λ _ r _. fact 𝓤 (Says (now (a .0)) r) }
 
   abbrev looking-code : Fn
   looking-code = record {
@@ -93,7 +93,7 @@ module _ {R : RattleType} (O : Returned R) (f : Book → R .Denot) (callee : Nam
     goes-in : IsBook h → ent 𝓤 (⋆ 𝓤 H A []) (ByValue 𝓤 H A .pre copied)
     goes-in was = qed W [] ∵ nothing ! $ owns-book ! h was $ fjoin ! $ nothing ! $ join ! $ nothing ! $ move ! (1 ∷ 0 ∷ []) $ frame ! $ done !
 
-    exits : (r : R .Denot) (w : Val) → r ≡ f h → ent 𝓤 (⋆ 𝓤 H A (Held 𝓤 R κ q b o γ h r w)) (Walk .post lent w)
+    exits : (r : R .Denot) (w : Val) → Says h r → ent 𝓤 (⋆ 𝓤 H A (Held 𝓤 R κ q b o γ h r w)) (Walk .post lent w)
     exits r w e =
         qed W (Held 𝓤 R κ q b o γ h r w) ∵ suffices ! _ (ends-at 𝓤 H A looking stayed (looking-says 𝓤) W lent w r (tt, tt) (tt, tt)) $ says ! e $
         nothing ! $ move ! (1 ∷ 0 ∷ []) $ join ! $ frame ! $ feqI ! (List Val) (vptr b o ∷ []) (vptr b o ∷ []) refl $ fjoin3 ! $ nothing ! $ move ! (1 ∷ 0 ∷ []) $ fjoin ! $ frame ! $ done !
@@ -111,7 +111,7 @@ module _ {R : RattleType} (O : Returned R) (f : Book → R .Denot) (callee : Nam
           -- The context is [the token; the fractured borrow; true; res; true; _2; …; _1; …; room for _0; …].
           use0 W (raw (ByValue 𝓤 H A .pre copied)) (goes-in was) $
           calls-at ! fm (ByValue 𝓤 H A) known copied (and-then ! (load ! (from ! (stop !)) (look ! 6 refl)) (no-more !)) (λ w.
-          answered ! tt by-value (by-value-says 𝓤) copied w (λ r. r ≡ f h) (λ r e. id⊢ 𝓤 (fact 𝓤 (r ≡ f h))) (λ r e is.
+          answered ! tt by-value (by-value-says 𝓤) copied w (λ r. Says h r) (λ r e. id⊢ 𝓤 (fact 𝓤 (Says h r))) (λ r e is.
           -- The context is [what the result owns; true; the token; the fractured borrow; true; res; true; _2; …; _1; …; room for _0; …].
           land ! (from ! (stop !)) (init ! 11 refl (O .typed 𝓤 H A W r w is)) $
           returns ! (look ! 11 refl) $ forget ! 7 refl $ forget ! 9 refl $ forget ! 11 refl $

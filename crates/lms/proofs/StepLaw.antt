@@ -11,7 +11,7 @@ use Rattle.wire.specs.Numbers.{bytes}
 use Rattle.sha256.specs.Digest.{sha256, digestOf}
 use Rattle.lms.specs.OneTime.{deficit, checksum, digits, stepCount, messageHash}
 use Rattle.lms.specs.Layout.{wellFormed}
-use Rattle.lms.specs.Check.{hashOf, verifiedOf, answer, checkOf}
+use Rattle.lms.specs.Check.{hashOf, verifiedOf, checkedBy, checkOf}
 use Rattle.lms.specs.Steps.{StepLaw}
 
 more : (l : List ℕ) (n : ℕ) → deficit l (suc n) ≡ deficit l n + (255 - getD l n 0)
@@ -56,7 +56,7 @@ whole-digest : (m : List ℕ) → length (sha256 m) ≡ 32
 unfolding sha256 digestOf bytes
 whole-digest m = refl
 
-check-most : (short formed : Bool) (key message signature : List ℕ) → (answer short formed (verifiedOf key message signature)) .steps ≤ 8415
+check-most : (short formed : Bool) (key message signature : List ℕ) → (checkedBy short formed (verifiedOf key message signature)) .steps ≤ 8415
 unfolding verifiedOf messageHash
 check-most false formed key message signature = omega arith
 check-most true false key message signature = omega arith

@@ -32,10 +32,10 @@ verifiedOf key message signature =
     record { refusal = 0; verdict = same (topOf key message signature) (root key); steps = stepCount (hashOf key message signature) }
 
 -- By whether the message is short enough, and whether key and signature are well formed.
-abbrev pub answer : Bool → Bool → Checked → Checked
-answer false formed verified = record { refusal = 2; verdict = false; steps = 0 }
-answer true false verified = record { refusal = 0; verdict = false; steps = 0 }
-answer true true verified = verified
+abbrev pub checkedBy : Bool → Bool → Checked → Checked
+checkedBy false formed verified = record { refusal = 2; verdict = false; steps = 0 }
+checkedBy true false verified = record { refusal = 0; verdict = false; steps = 0 }
+checkedBy true true verified = verified
 
 unfoldable pub checkOf : List ℕ → List ℕ → List ℕ → Checked
-checkOf key message signature = answer (leb (length message) 1024) (wellFormed key signature) (verifiedOf key message signature)
+checkOf key message signature = checkedBy (leb (length message) 1024) (wellFormed key signature) (verifiedOf key message signature)

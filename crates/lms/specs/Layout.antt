@@ -20,6 +20,10 @@ identifier key = part key 8 16
 abbrev pub root : List ℕ → List ℕ
 root key = part key 24 32
 
+-- It carries types 6 and 4.
+abbrev pub typedKey : List ℕ → Bool
+typedKey key = eqb (keyType key) 6 && eqb (keyOneTimeType key) 4
+
 -- A signature of 1,452 bytes: leaf q, one-time type, C, 34 strings, type, ten path strings.
 abbrev pub leaf : List ℕ → ℕ
 leaf signature = u32At signature 0
@@ -42,7 +46,7 @@ path s = part s 1132 32 ∷ part s 1164 32 ∷ part s 1196 32 ∷ part s 1228 32
 -- The right types, and a leaf that the tree has.
 abbrev pub rightTypes : List ℕ → List ℕ → Bool
 rightTypes key signature =
-    eqb (keyType key) 6 && eqb (keyOneTimeType key) 4 && eqb (treeType signature) 6 && eqb (oneTimeType signature) 4 && ltb (leaf signature) 1024
+    typedKey key && eqb (treeType signature) 6 && eqb (oneTimeType signature) 4 && ltb (leaf signature) 1024
 
 -- The right lengths too.
 unfoldable pub wellFormed : List ℕ → List ℕ → Bool

@@ -1,21 +1,28 @@
 // What stands where in a key and in a signature.
 ghost use mathlib.Core.Path.{_≡_};
 ghost use lib.ListN.{length};
-ghost use Rattle.lms.specs.Layout.{path, rightTypes, wellFormed};
+ghost use Rattle.lms.specs.Layout.{path, typedKey, rightTypes, wellFormed};
 use wire::digest_at;
 use wire::u32_at;
+
+// Whether a key carries types 6 and 4.
+pub fn typed_key(key: &[u8]) -> bool
+    requires { ⌜ length (now key) ≡ 56 ⌝ }
+    ensures { λ r. ⌜ r ≡ typedKey (now (key .entry)) ⌝ }
+{
+    (u32_at(key, 0) == 6) & (u32_at(key, 4) == 4)
+}
 
 // Whether the types are right and the leaf is one of the tree's.
 fn right_types(key: &[u8], signature: &[u8]) -> bool
     requires { ⌜ (length (now key) ≡ 56) × (length (now signature) ≡ 1452) ⌝ }
     ensures { λ r. ⌜ r ≡ rightTypes (now (key .entry)) (now (signature .entry)) ⌝ }
 {
-    let key_type = u32_at(key, 0);
-    let key_one_time = u32_at(key, 4);
+    let typed = typed_key(key);
     let tree_type = u32_at(signature, 1128);
     let one_time = u32_at(signature, 4);
     let leaf = u32_at(signature, 0);
-    (key_type == 6) & (key_one_time == 4) & (tree_type == 6) & (one_time == 4) & (leaf < 1024)
+    typed & (tree_type == 6) & (one_time == 4) & (leaf < 1024)
 }
 
 // Whether the lengths and types are right and the leaf is one of the tree's.

@@ -10,6 +10,7 @@ mod prefix;
 mod tree;
 
 use layout::path_of;
+pub use layout::typed_key;
 use layout::well_formed;
 pub use one_time::Walked;
 pub use one_time::leaf_key;

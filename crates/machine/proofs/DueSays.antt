@@ -8,11 +8,10 @@ use lib.ListN.{getD}
 use lib.Dec.{leb}
 use borrow.Author.Tests.{leb-true, leb-false}
 use Rattle.machine.specs.Book.{sound, closing, noChannel}
-use Rattle.machine.specs.Due.{sooner, soonest, due, Next, DueMeans}
+use Rattle.machine.specs.Due.{sooner, soonest, Due, number, none, due, FirstDue, DueMeans}
 use Rattle.machine.specs.declared.state.Book.{Book}
 use Rattle.machine.specs.declared.state.Channel.{Channel}
 use Rattle.machine.specs.declared.answers.Soonest.{Soonest}
-use Rattle.machine.specs.declared.answers.Found.{Found}
 use Rattle.machine.proofs.Laws.{clash, and-both}
 
 abbrev at : List Channel → ℕ → Channel
@@ -85,22 +84,22 @@ told (ch ∷ l) k = told-more k ch l (soonest (suc k) l) (told l (suc k))
 
 pub due-means : (b : Book) → DueMeans b
 unfolding due
-due-means b = record { some = λ n e. some (sound b) refl ((soonest 0 (b .channels)) .some) refl n e; none = λ e h. told (b .channels) 0 .none (empty (sound b) h ((soonest 0 (b .channels)) .some) refl e) }
+due-means b = record { named = λ n e. named (sound b) refl ((soonest 0 (b .channels)) .some) refl n e; unnamed = λ e h. told (b .channels) 0 .none (empty (sound b) h ((soonest 0 (b .channels)) .some) refl e) }
   where
     s : Soonest
     s = soonest 0 (b .channels)
 
-    some : (x : Bool) → sound b ≡ x → (y : Bool) → s .some ≡ y → (n : ℕ) → cond (x && y) (Found.At (s .number)) Found.Nothing ≡ Found.At n → Next b n
-    some true p true q n e =
+    named : (x : Bool) → sound b ≡ x → (y : Bool) → s .some ≡ y → (n : ℕ) → cond (x && y) (number (s .number)) none ≡ number n → FirstDue b n
+    named true p true q n e =
         let f = (told (b .channels) 0 .some q) .1 in
         let i = (told (b .channels) 0 .some q) .0 in
         let w : s .number ≡ n = cc in
         let v : i ≡ n = omega (arith, f .numbered) in
-        subst (Next b) v (record { steady = p; closes = f .closes; least = λ m h. omega (arith, f .least m h, f .dated); lower = λ m h j. omega (arith, f .lower m h j, f .dated) })
-    some true p false q n e = let z : _≡_ {A = ℕ} 0 1 = cc in absurd (omega (arith, z))
-    some false p y q n e = let z : _≡_ {A = ℕ} 0 1 = cc in absurd (omega (arith, z))
+        subst (FirstDue b) v (record { steady = p; closes = f .closes; least = λ m h. omega (arith, f .least m h, f .dated); lower = λ m h j. omega (arith, f .lower m h j, f .dated) })
+    named true p false q n e = let z : _≡_ {A = ℕ} 0 1 = cc in absurd (omega (arith, z))
+    named false p y q n e = let z : _≡_ {A = ℕ} 0 1 = cc in absurd (omega (arith, z))
 
-    empty : (x : Bool) → x ≡ true → (y : Bool) → s .some ≡ y → cond (x && y) (Found.At (s .number)) Found.Nothing ≡ Found.Nothing → s .some ≡ false
+    empty : (x : Bool) → x ≡ true → (y : Bool) → s .some ≡ y → cond (x && y) (number (s .number)) none ≡ none → s .some ≡ false
     empty true p true q e = let z : _≡_ {A = ℕ} 0 1 = cc in absurd (omega (arith, z))
     empty true p false q e = q
     empty false p y q e = absurd (clash p refl)

@@ -3,7 +3,8 @@ use mathlib.Core.Path.{_≡_, refl, sym, _∙_}
 use mathlib.Core.Bool.{Bool, true, false, true≢false, false≢true, _&&_, _||_}
 use mathlib.Core.List.{List, [], _∷_}
 use Prim.Native.Nat.{ℕ}
-use borrow.Author.Tests.{eq-eqb}
+use lib.Dec.{eqb}
+use borrow.Author.Tests.{eqb-true, eq-eqb}
 use Rattle.wire.specs.Parts.{same}
 
 pub clash : {x : Bool} → x ≡ true → x ≡ false → ⊥
@@ -32,3 +33,22 @@ pub same-refl : (l : List ℕ) → same l l ≡ true
 unfolding same
 same-refl [] = refl
 same-refl (x ∷ l) = and-make (eq-eqb x x refl) (same-refl l)
+
+pub same-eq : (x y : List ℕ) → same x y ≡ true → x ≡ y
+unfolding same
+same-eq [] [] h = refl
+same-eq [] (b ∷ y) h = absurd (false≢true h)
+same-eq (a ∷ x) [] h = absurd (false≢true h)
+same-eq (a ∷ x) (b ∷ y) h =
+    let p = and-both (eqb a b) (same x y) h in
+    let q : a ≡ b = eqb-true a b (p .0) in
+    let r : x ≡ y = same-eq x y (p .1) in
+    cc
+
+-- Strings that differ are not the same.
+pub same-ne : (x y : List ℕ) → (x ≡ y → ⊥) → same x y ≡ false
+same-ne x y h = go (same x y) refl
+  where
+    go : (b : Bool) → same x y ≡ b → b ≡ false
+    go true e = absurd (h (same-eq x y e))
+    go false e = refl

@@ -5,7 +5,7 @@ use mathlib.Core.List.{List, [], _∷_}
 use Prim.Native.Nat.{ℕ, _+_, _≤_, _<_}
 use lib.ListN.{getD}
 use Rattle.machine.specs.Format.{customerDeposit, merchantDeposit, delay, customerPart, merchantPart, lock, merchantKey}
-use Rattle.machine.specs.Book.{limit, agreed}
+use Rattle.machine.specs.Book.{limit, shortest, longest, agreed}
 use Rattle.machine.specs.Rules.{delayed}
 use Rattle.machine.specs.Ledger.{Event, deposits, member, has, eventOf, closed, closings, paid, allMerchant, split}
 use Rattle.machine.specs.declared.state.Channel.{Channel}
@@ -41,8 +41,8 @@ pub record Terms (made : Bool) (s : List ℕ) (first second wait : ℕ) (key : L
   pub delays : wait ≡ delayed (delay s)
   pub signer : key ≡ merchantKey s
   pub fits : first + second ≤ limit
-  pub least : 3600 ≤ wait
-  pub most : wait ≤ 2592000
+  pub least : shortest ≤ wait
+  pub most : wait ≤ longest
 
 abbrev pub TermsOf : List Event → Channel → Type 0
 TermsOf l c = Terms (has 2 l) ((eventOf 2 l) .string) (c .customer .deposit .0) (c .merchant .deposit .0) (c .delay) (c .merchant .key)

@@ -8,8 +8,8 @@ use lib.Dec.{eqb, leb}
 use borrow.Author.Tests.{eqb-true, leb-true, ne-eqb}
 use Rattle.machine.specs.Checks.{Verdict}
 use Rattle.machine.specs.Format.{opcode, amount, customerDeposit, delay, customerPart, merchantPart, lock}
-use Rattle.machine.specs.Book.{agreed, total, held}
-use Rattle.machine.specs.Rules.{Plan, moved, become, delayed, establish, fundCustomer, fundMerchant, reclaim, mutualClose, customerClose, merchantClose, dispute, settle}
+use Rattle.machine.specs.Book.{shortest, longest, agreed, total, held}
+use Rattle.machine.specs.Rules.{Plan, moved, become, delayed, delayFits, establish, fundCustomer, fundMerchant, reclaim, mutualClose, customerClose, merchantClose, dispute, settle}
 use Rattle.machine.specs.Machine.{customerOf, merchantOf, plan}
 use Rattle.machine.specs.Ledger.{Event, deposits, sum, opcodes, member, tally, has, count, eventOf, closings, agreedCustomer, agreedTotal, paid, allMerchant, split}
 use Rattle.machine.specs.declared.state.Channel.{Channel}
@@ -48,13 +48,13 @@ unfolding held
 held-at c n x e h = subst (λ (i : ℕ). cond (eqb i 2) (c .customer .deposit .0) (cond (eqb i 3 || eqb i 4) (total c) (cond (eqb i 5) (c .kept .0) 0)) ≡ x) (sym e) h
 
 -- Check 7 is on the operand; 0 stands for a day.
-delayed-fits : (d : ℕ) → (eqb d 0 || (leb 3600 d && leb d 2592000)) ≡ true → (3600 ≤ delayed d) × (delayed d ≤ 2592000)
+delayed-fits : (d : ℕ) → delayFits d ≡ true → (shortest ≤ delayed d) × (delayed d ≤ longest)
 unfolding delayed
 delayed-fits d = go (eqb d 0)
   where
-    go : (x : Bool) → (x || (leb 3600 d && leb d 2592000)) ≡ true → (3600 ≤ cond x 86400 d) × (cond x 86400 d ≤ 2592000)
+    go : (x : Bool) → (x || (leb shortest d && leb d longest)) ≡ true → (shortest ≤ cond x 86400 d) × (cond x 86400 d ≤ longest)
     go true h = (omega arith, omega arith)
-    go false h = let p = and-both (leb 3600 d) (leb d 2592000) h in (leb-true _ _ (p .0), leb-true _ _ (p .1))
+    go false h = let p = and-both (leb shortest d) (leb d longest) h in (leb-true _ _ (p .0), leb-true _ _ (p .1))
 
 -- ---- one more string
 

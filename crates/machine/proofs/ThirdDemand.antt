@@ -6,23 +6,24 @@ use Prim.Native.Nat.{ℕ, zero, suc, _≤_, _<_}
 use native.Mathlib.Omega.{arith}
 use lib.ListN.{length, getD, set, length-set, length-replicate, getD-replicate}
 use lib.Seq.{getD-set-same, getD-set-other}
-use lib.Dec.{eqb, leb}
+use lib.Dec.{eqb, leb, ltb}
 use borrow.Author.Tests.{eqb-true, eqb-false, leb-true, ltb-true, le-leb, lt-ltb, eq-eqb}
 use Rattle.sha256.specs.Digest.{sha256}
 use Rattle.machine.specs.Format.{opcode, size, time, place}
 use Rattle.machine.specs.Book.{cents, limit, theMark, soundChannel, all, sound, noChannel, unused, channel, fresh, opening, reading, readChannel}
 use Rattle.machine.specs.Checks.{Check, Verdict, clean, passed, judge}
-use Rattle.machine.specs.Rules.{Plan, establish, fundCustomer, fundMerchant, reclaim, mutualClose, customerClose, merchantClose, dispute, settle}
+use Rattle.machine.specs.Rules.{establish, fundCustomer, fundMerchant, reclaim, mutualClose, customerClose, merchantClose, dispute, settle}
 use Rattle.machine.specs.Machine.{answer, Order, setClock, onChannel, shared, carried, plans, plan, noPlan, planned, order, verdict, step}
 use Rattle.machine.specs.Real.{lmsVerdict}
-use Rattle.machine.specs.Ledger.{Entry, Event, accepted, ofChannel, clock, strings, paidElsewhere, opcodes, tally, has, Timely, Standing, recorded, after, Disputes, Accounted, ThirdDemand}
+use Rattle.machine.specs.Ledger.{Entry, Event, accepted, ofChannel, clock, strings, ofNone, paidBy, nothing, entryAt, opcodes, tally, has, Timely, Standing, recorded, after, Disputes, Accounted, ThirdDemand}
 use Rattle.machine.specs.declared.state.Channel.{Channel}
 use Rattle.machine.specs.declared.state.Book.{Book}
 use Rattle.machine.specs.declared.answers.Judged.{Judged}
 use Rattle.machine.specs.declared.answers.Stepped.{Stepped}
 use Rattle.machine.specs.declared.answers.Opened.{Opened}
-use Rattle.machine.proofs.Laws.{and-both, and-make, same-refl}
+use Rattle.machine.proofs.Laws.{clash, and-both, and-make, same-refl}
 use Rattle.machine.proofs.Judging.{Passed, coded, judge-passed, passed-judge}
+use Rattle.machine.proofs.Plans.{each-plan}
 use Rattle.machine.proofs.Life.{Stage}
 use Rattle.machine.proofs.Moves.{next, moves, Once, once-on, one-of}
 use Rattle.machine.proofs.Facts.{Facts, stage-facts}
@@ -41,15 +42,14 @@ set-each Q d l m a h q r n = go (eqb m n) refl
     go true z = subst (λ j. Q j (getD (set l m a) j d)) (eqb-true m n z) (subst (Q m) (sym (getD-set-same l m a d h)) q)
     go false z = subst (Q n) (sym (getD-set-other l m n a d (λ e. eqb-false m n z (sym e)))) (r n z)
 
--- A test that every plan passes.
-abbrev allPlans : (Plan → Bool) → List Plan → Bool
-allPlans p [] = true
-allPlans p (x ∷ l) = p x && allPlans p l
+-- ---- strings that are no channel's
 
-each-plan : (p : Plan → Bool) (d : Plan) (l : List Plan) → allPlans p l ≡ true → p d ≡ true → (i : ℕ) → p (getD l i d) ≡ true
-each-plan p d [] h e i = e
-each-plan p d (x ∷ l) h e zero = (and-both (p x) (allPlans p l) h) .0
-each-plan p d (x ∷ l) h e (suc i) = each-plan p d l ((and-both (p x) (allPlans p l) h) .1) e i
+abbrev Unpaid : List Entry → Type 0
+Unpaid h = (i : ℕ) → i < length h → ofNone (entryAt h i) ≡ true → paidBy ((entryAt h i) .answer) ≡ nothing
+
+unpaid-on : (e : Entry) (h : List Entry) → (ofNone e ≡ true → paidBy (e .answer) ≡ nothing) → Unpaid h → Unpaid (e ∷ h)
+unpaid-on e h f u zero p n = f n
+unpaid-on e h f u (suc i) p n = u i (omega (arith, p)) n
 
 -- ---- the book agrees with its history
 
@@ -60,7 +60,7 @@ record Agrees (id : List ℕ) (t : Standing) : Type 0 where
   early : t .book .clock .0 ≤ limit
   many : length (t .book .channels) ≡ 64
   stage : (n : ℕ) → n < 64 → Stage (strings n (t .history)) (channel (t .book) n)
-  idle : paidElsewhere (t .history) ≡ 0
+  idle : Unpaid (t .history)
   once : (n : ℕ) → n < 64 → Once (strings n (t .history))
 
 -- One more accepted string of a channel, and the strings of that channel and of another.
@@ -87,7 +87,7 @@ module _ (id : List ℕ) (t : Standing) (i : Agrees id t) where
 
   module _ (s : List ℕ) where
     refused-agrees : (code steps : ℕ) → eqb code 0 ≡ false → Agrees id (recorded t s (record { book = t .book; answer = record { refusal = code; customer = cents 0; merchant = cents 0; steps = steps } }))
-    unfolding strings clock paidElsewhere
+    unfolding strings clock
     refused-agrees code steps z = record {
       mark = i .mark;
       same = i .same;
@@ -96,11 +96,11 @@ module _ (id : List ℕ) (t : Standing) (i : Agrees id t) where
       many = i .many;
       stage = λ n p. rw z (i .stage n p);
       once = λ n p. rw z (i .once n p);
-      idle = rw z (omega (arith, i .idle));
+      idle = unpaid-on _ (t .history) (λ _. refl) (i .idle);
     }
 
     clock-agrees : (steps : ℕ) → opcode s ≡ 1 → Passed ((setClock (t .book) (time s)) .checks) → Agrees id (recorded t s (granted (setClock (t .book) (time s)) steps))
-    unfolding strings clock paidElsewhere
+    unfolding strings clock
     clock-agrees steps o p =
         let q = and-both (leb (t .book .clock .0) (time s)) _ (p .0) in
         record {
@@ -111,7 +111,7 @@ module _ (id : List ℕ) (t : Standing) (i : Agrees id t) where
           many = i .many;
           stage = λ n p. rw o (i .stage n p);
           once = λ n p. rw o (i .once n p);
-          idle = rw o (omega (arith, i .idle));
+          idle = unpaid-on _ (t .history) (λ _. refl) (i .idle);
         }
 
     module _ (check : List ℕ → List ℕ → List ℕ → Verdict) (hash : List ℕ → List ℕ) where
@@ -119,14 +119,14 @@ module _ (id : List ℕ) (t : Standing) (i : Agrees id t) where
       named = onChannel (t .book) (place s) (planned check hash (t .book) s)
 
       channel-agrees : (steps : ℕ) → eqb (opcode s) 1 ≡ false → ofChannel s ≡ true → Passed (named .checks) → Agrees id (recorded t s (granted named steps))
-      unfolding clock paidElsewhere
+      unfolding clock
       channel-agrees steps u o p = record {
         mark = i .mark;
         same = i .same;
         now = rw u (i .now);
         early = i .early;
         many = simp length-set (i .many);
-        idle = rw (o, p .0) (omega (arith, i .idle));
+        idle = unpaid-on e (t .history) (λ u. let k : ltb (place s) 64 ≡ true = p .0 in let v : ofNone e ≡ false = cc in absurd (clash u v)) (i .idle);
         stage = λ n q. (each n q) .0;
         once = λ n q. (each n q) .1;
       }
@@ -163,7 +163,7 @@ module _ (id : List ℕ) (t : Standing) (i : Agrees id t) where
         where
           go : (x : Bool) → coded ((cond x (setClock (t .book) (time s)) named) .checks) ≡ true
           go true = refl
-          go false = each-plan (λ p. coded (p .checks)) (noPlan (channel (t .book) (place s))) (plans check hash (t .book .id) (t .book .clock .0) s (channel (t .book) (place s))) refl refl (opcode s)
+          go false = each-plan (λ p. coded (p .checks)) (noPlan (channel (t .book) (place s))) (plans check hash (t .book .id) (t .book .clock .0) s (channel (t .book) (place s))) refl (opcode s) (λ _. refl)
 
       granted-agrees : (steps : ℕ) → Passed checksOf → Agrees id (recorded t s (granted (order check hash (t .book) s) steps))
       granted-agrees steps p = go (eqb (opcode s) 1) refl (p .1 .1 .1)
@@ -188,7 +188,7 @@ module _ (id : List ℕ) (t : Standing) (i : Agrees id t) where
 -- ---- from the opening on
 
 fresh-agrees : (id : List ℕ) → Agrees id (record { book = fresh id; history = [] })
-unfolding fresh strings clock paidElsewhere opcodes tally
+unfolding fresh strings clock opcodes tally
 fresh-agrees id = record {
   mark = refl;
   same = refl;
@@ -196,7 +196,7 @@ fresh-agrees id = record {
   early = omega arith;
   many = length-replicate 64 unused;
   stage = λ n p. subst (Stage []) (sym (getD-replicate 64 n unused noChannel p)) refl;
-  idle = refl;
+  idle = λ i p. let z : ⊥ = omega (arith, p) in absurd z;
   once = λ n p i. omega arith;
 }
 
@@ -243,7 +243,7 @@ opened lent id = go (eqb (length id) 16)
     go false z = absurd (eqb-false 2 0 refl z)
 
 pub third-demand : (check : List ℕ → List ℕ → List ℕ → Verdict) (hash : List ℕ → List ℕ) → ThirdDemand check hash
-third-demand check hash lent id e l n p = rw (opened lent id e) (kept check hash id _ (after-agrees check hash id _ l (fresh-agrees id)) n p)
+third-demand check hash lent id e l n p = rw (opened lent id e) (kept check hash id _ (after-agrees check hash id _ l (fresh-agrees id)) n (omega (arith, p)))
 
 -- Of the real machine.
 pub third-demand-met : ThirdDemand lmsVerdict sha256

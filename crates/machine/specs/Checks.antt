@@ -15,6 +15,10 @@ pub data Check : Type 0 where
   test : ℕ → Bool → Check
   signed : ℕ → Verdict → Check
 
+abbrev pub numberOf : Check → ℕ
+numberOf (test r ok) = r
+numberOf (signed r v) = r
+
 -- No check made yet.
 abbrev pub clean : Judged
 clean = record { refusal = 0; steps = 0 }

@@ -20,12 +20,22 @@ unfoldable pub soonest : ℕ → List Channel → Soonest
 soonest n [] = record { some = false; number = 0; deadline = seconds 0 }
 soonest n (ch ∷ l) = sooner n ch (soonest (suc n) l)
 
+-- The paper's answer: the number of a channel, or none.
+pub data Due : Type 0 where
+  number : ℕ → Due
+  none : Due
+
+-- Its value for each case of the enum.
+abbrev pub valueOf : Found → Due
+valueOf (Found.At n) = number n
+valueOf Found.Nothing = none
+
 -- None exactly when the book is unsound or has no such channel.
-unfoldable pub due : Book → Found
-due b = cond (sound b && (soonest 0 (b .channels)) .some) (Found.At ((soonest 0 (b .channels)) .number)) Found.Nothing
+unfoldable pub due : Book → Due
+due b = cond (sound b && (soonest 0 (b .channels)) .some) (number ((soonest 0 (b .channels)) .number)) none
 
 -- What due says, channel by channel. The channel n that it names is closing, with the smallest deadline, and the lower number where equal.
-pub record Next (b : Book) (n : ℕ) : Type 0 where
+pub record FirstDue (b : Book) (n : ℕ) : Type 0 where
   pub steady : sound b ≡ true
   pub closes : closing (channel b n) ≡ true
   pub least : (m : ℕ) → closing (channel b m) ≡ true → (channel b n) .deadline .0 ≤ (channel b m) .deadline .0
@@ -33,5 +43,5 @@ pub record Next (b : Book) (n : ℕ) : Type 0 where
 
 -- Where it names none, the book is unsound or no channel is closing.
 pub record DueMeans (b : Book) : Type 0 where
-  pub some : (n : ℕ) → due b ≡ Found.At n → Next b n
-  pub none : due b ≡ Found.Nothing → sound b ≡ true → (m : ℕ) → closing (channel b m) ≡ false
+  pub named : (n : ℕ) → due b ≡ number n → FirstDue b n
+  pub unnamed : due b ≡ none → sound b ≡ true → (m : ℕ) → closing (channel b m) ≡ false

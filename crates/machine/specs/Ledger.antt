@@ -1,10 +1,10 @@
 -- Document 01, "What a closed channel paid" and the mission's third demand: its words, read from the opening, the strings and their
 -- answers, and the one claim about the whole list.
 use mathlib.Core.Path.{_≡_}
-use mathlib.Core.Bool.{Bool, true, false, cond, _&&_, _||_}
+use mathlib.Core.Bool.{Bool, true, false, cond, not, _&&_, _||_}
 use mathlib.Core.List.{List, [], _∷_}
 use Prim.Native.Nat.{ℕ, _+_, _<_}
-use lib.ListN.{length}
+use lib.ListN.{length, getD}
 use lib.Dec.{eqb, leb, ltb}
 use Rattle.machine.specs.Format.{opcode, size, time, place, amount, customerDeposit, merchantDeposit, delay, customerPart, merchantPart, lock, merchantKey, secret, signatures, signature, message}
 use Rattle.machine.specs.Book.{cents, opening, reading}
@@ -45,11 +45,29 @@ strings n [] = []
 strings n (e ∷ h) =
     cond (accepted e && (ofChannel (e .string) && eqb (place (e .string)) n)) (record { string = e .string; answer = e .answer; clock = clock h } ∷ strings n h) (strings n h)
 
--- What the strings that are no channel's were paid, to both sides together: 0 exactly when each paid 0 and 0.
-unfoldable pub paidElsewhere : List Entry → ℕ
-paidElsewhere [] = 0
-paidElsewhere (e ∷ h) =
-    cond (accepted e && (ofChannel (e .string) && ltb (place (e .string)) 64)) 0 (e .answer .customer .0 + e .answer .merchant .0) + paidElsewhere h
+-- A string that is no channel's: it was refused, or is no 02 to 0A, or names none of the 64.
+abbrev pub ofNone : Entry → Bool
+ofNone e = not (accepted e && (ofChannel (e .string) && ltb (place (e .string)) 64))
+
+-- Cents to each side.
+pub record Paid : Type 0 where
+  pub customer : ℕ
+  pub merchant : ℕ
+
+-- What an answer pays to each side.
+abbrev pub paidBy : Answer → Paid
+paidBy a = record { customer = a .customer .0; merchant = a .merchant .0 }
+
+abbrev pub nothing : Paid
+nothing = record { customer = 0; merchant = 0 }
+
+-- An answer of zeros, which stands past the end of a history.
+abbrev pub noAnswer : Answer
+noAnswer = record { refusal = 0; customer = cents 0; merchant = cents 0; steps = 0 }
+
+-- The entry at a place of a history.
+abbrev pub entryAt : List Entry → ℕ → Entry
+entryAt h i = getD h i (record { string = []; answer = noAnswer })
 
 -- ---- words about the strings of one channel
 
@@ -63,10 +81,6 @@ deposit e = cond (eqb (opcode (e .string)) 3 || eqb (opcode (e .string)) 4) (amo
 -- Deposits: the sum of the cents in its accepted 03 and 04.
 abbrev pub deposits : List Event → ℕ
 deposits l = sum deposit l
-
-pub record Paid : Type 0 where
-  pub customer : ℕ
-  pub merchant : ℕ
 
 -- Paid to each side: the sums of these fields in the answers.
 abbrev pub paid : List Event → Paid
@@ -93,7 +107,7 @@ count k l = tally k (opcodes l)
 
 -- The string with this opcode: the claim says that there is at most one.
 abbrev pub noEvent : Event
-noEvent = record { string = []; answer = record { refusal = 0; customer = cents 0; merchant = cents 0; steps = 0 }; clock = 0 }
+noEvent = record { string = []; answer = noAnswer; clock = 0 }
 
 unfoldable pub eventOf : ℕ → List Event → Event
 eventOf k [] = noEvent
@@ -131,7 +145,7 @@ split l =
     (cond (has 7 l && has 10 l) (parts 7 l)
     (cond (has 7 l && has 9 l) (allMerchant l)
     (cond (has 8 l && has 10 l) (allMerchant l)
-    (record { customer = 0; merchant = 0 })))))
+    nothing))))
 
 -- A customer's closing is before its deadline: an accepted 07, no accepted 09 or 0A, and the clock after the list is early.
 pub record Timely (l : List Event) (now : ℕ) : Type 0 where
@@ -172,7 +186,7 @@ module _ (check : List ℕ → List ℕ → List ℕ → Verdict) (hash : List �
     pub closes : closed l ≡ eqb ((reading b n) .status) 6
     pub splits : closed l ≡ true → paid l ≡ split l
     pub disputed : has 9 l ≡ true → paid l ≡ allMerchant l
-    pub elsewhere : paidElsewhere h ≡ 0
+    pub elsewhere : (i : ℕ) → i < length h → ofNone (entryAt h i) ≡ true → paidBy ((entryAt h i) .answer) ≡ nothing
     pub dispute : Timely l (clock h) → (d : List ℕ) → Disputes id n l d → (step check hash b d) .answer .refusal ≡ 0
     -- its words are well said: no string without a 02, each command at most once, one of 06 and 07, one that closes
     pub begun : (k : ℕ) → has k l ≡ true → has 2 l ≡ true

@@ -39,12 +39,14 @@ pub record Order : Type 0 where
   pub book : Book
   pub pays : Payment
 
+-- Check 3: the time is at least the clock and at most 2^63 - 1.
+abbrev pub timed : ℕ → ℕ → List Check
+timed clock t = test 3 (leb clock t && leb t limit) ∷ []
+
 -- 01 clock.
 abbrev pub setClock : Book → ℕ → Order
 setClock b t = record {
-  checks =
-      test 3 (leb (b .clock .0) t && leb t limit)
-      ∷ [];
+  checks = timed (b .clock .0) t;
   book = withClock b t;
   pays = pay 0 0;
 }

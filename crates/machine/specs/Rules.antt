@@ -4,8 +4,8 @@ use mathlib.Core.Bool.{Bool, cond, not, _&&_, _||_}
 use mathlib.Core.List.{List, [], _∷_}
 use Prim.Native.Nat.{ℕ, _+_}
 use lib.Dec.{eqb, leb, ltb}
-use Rattle.wire.specs.Numbers.{u32At}
 use Rattle.wire.specs.Parts.{same}
+use Rattle.lms.specs.Layout.{typedKey}
 use Rattle.machine.specs.Book.{cents, seconds, limit, shortest, longest, total, closing}
 use Rattle.machine.specs.Checks.{Check, test, signed, Verdict}
 use Rattle.machine.specs.declared.units.Cents.{Cents}
@@ -48,12 +48,17 @@ become status ch = moved ch status (ch .deadline .0) (ch .kept .0) (ch .lock)
 unfoldable pub delayed : ℕ → ℕ
 delayed d = cond (eqb d 0) 86400 d
 
--- Types 6 and 4.
-abbrev pub typed : List ℕ → Bool
-typed key = eqb (u32At key 0) 6 && eqb (u32At key 4) 4
-
+-- Check 6: both keys carry types 6 and 4, and they differ.
 unfoldable pub keyed : List ℕ → List ℕ → Bool
-keyed customer merchant = typed customer && typed merchant && not (same customer merchant)
+keyed customer merchant = typedKey customer && typedKey merchant && not (same customer merchant)
+
+-- Check 7.
+abbrev pub delayFits : ℕ → Bool
+delayFits d = eqb d 0 || (leb shortest d && leb d longest)
+
+-- Check 8 of 02: D_c at least 1, the sum at most 2^63 - 1, as whole numbers.
+abbrev pub depositsFit : ℕ → ℕ → Bool
+depositsFit c b = leb 1 c && leb (c + b) limit
 
 -- The keys, the deposits, the delay and the status are named: deadline, kept part and lock stay.
 abbrev pub established : Party → Party → ℕ → Channel → Channel
@@ -72,8 +77,8 @@ establish customer merchant d ch = record {
   checks =
       test 5 (eqb (ch .status) 0)
       ∷ test 6 (keyed (customer .key) (merchant .key))
-      ∷ test 7 (eqb d 0 || (leb shortest d && leb d longest))
-      ∷ test 8 (leb 1 (customer .deposit .0) && leb (customer .deposit .0 + merchant .deposit .0) limit)
+      ∷ test 7 (delayFits d)
+      ∷ test 8 (depositsFit (customer .deposit .0) (merchant .deposit .0))
       ∷ [];
   channel = established customer merchant d ch;
   pays = pay 0 0;

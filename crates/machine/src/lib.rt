@@ -1,5 +1,6 @@
 // What the arbiter's code and definitions speak of: a book of 64 payment channels, and what its calls answer.
 mod answers;
+mod limits;
 mod state;
 mod units;
 
@@ -11,6 +12,10 @@ pub use answers::Reading;
 pub use answers::Ruled;
 pub use answers::Soonest;
 pub use answers::Stepped;
+pub use limits::LIMIT;
+pub use limits::LONGEST;
+pub use limits::MARK;
+pub use limits::SHORTEST;
 pub use state::Book;
 pub use state::Channel;
 pub use state::Party;

@@ -6,21 +6,21 @@ use borrow.Author.Needs.{needs}
 use Rattle.closing.proofs.customer_close.Statement.{statement}
 use Rattle.closing.proofs.customer_close.Tie as tie
 
-sealed-requires : tie.Need-sealed-requires
-sealed-requires c κs =
+signature-tested-requires : tie.Need-signature-tested-requires
+signature-tested-requires c κs =
     let c₄ = c .before .before .before .before in
     let c₇ = c₄ .before .before .before in
     let c₁₀ = c₇ .before .before .before in
     let c₁₆ = c₁₀ .before .before .before .before .before .before in
     omega (arith, c .tested3 .ensures .1, c₄ .tested2 .ensures .1, c₇ .tested .ensures .1, c₁₀ .unjudged .ensures .1, c₁₆ .pre .2)
 
-sealed-requires-2 : tie.Need-sealed-requires-2
-sealed-requires-2 c κs =
+signature-tested-requires-2 : tie.Need-signature-tested-requires-2
+signature-tested-requires-2 c κs =
     let c₅ = c .before .before .before .before .before in
     let c₈ = c₅ .before .before .before in
     let c₁₁ = c₈ .before .before .before in
     let c₁₇ = c₁₁ .before .before .before .before .before .before in
-    omega (arith, c .sealed .ensures .1, c .before .tested3 .ensures .1, c₅ .tested2 .ensures .1, c₈ .tested .ensures .1, c₁₁ .unjudged .ensures .1, c₁₇ .pre .2)
+    omega (arith, c .signature-tested .ensures .1, c .before .tested3 .ensures .1, c₅ .tested2 .ensures .1, c₈ .tested .ensures .1, c₁₁ .unjudged .ensures .1, c₁₇ .pre .2)
 
 digest-at-requires : tie.Need-digest-at-requires
 digest-at-requires c κs =
@@ -46,7 +46,7 @@ returns c =
     let c₁₅ = c₁₂ .before .before .before in
     let c₁₆ = c₁₅ .before in
     let c₁₇ = c₁₆ .before in
-    c .ruled .ensures ∙ rw (c₃ .sealed2 .ensures .0, c₄ .sealed .ensures .0, c₅ .tested3 .ensures .0, c₉ .tested2 .ensures .0, c₁₀ .sums-to .ensures, c₁₁ .total-of .ensures, c₁₂ .tested .ensures .0, c₁₅ .unjudged .ensures .0, c .before .deadline-from .ensures, c₂ .digest-at .ensures, c₁₆ .u64-at2 .ensures, c₁₇ .u64-at .ensures)
+    c .ruled .ensures ∙ rw (c₃ .signature-tested2 .ensures .0, c₄ .signature-tested .ensures .0, c₅ .tested3 .ensures .0, c₉ .tested2 .ensures .0, c₁₀ .sums-to .ensures, c₁₁ .total-of .ensures, c₁₂ .tested .ensures .0, c₁₅ .unjudged .ensures .0, c .before .deadline-from .ensures, c₂ .digest-at .ensures, c₁₆ .u64-at2 .ensures, c₁₇ .u64-at .ensures)
 
 pub customer-close-spec : {M : Type 1} → statement M
 customer-close-spec =
@@ -60,8 +60,8 @@ customer-close-spec =
     (λ c κs. search needs)
     (λ c κs. search needs)
     (λ c κs. search needs)
-    sealed-requires
-    sealed-requires-2
+    signature-tested-requires
+    signature-tested-requires-2
     digest-at-requires
     deadline-from-requires
     (λ c κs. search needs)

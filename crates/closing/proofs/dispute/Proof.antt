@@ -6,12 +6,12 @@ use borrow.Author.Needs.{needs}
 use Rattle.closing.proofs.dispute.Statement.{statement}
 use Rattle.closing.proofs.dispute.Tie as tie
 
-sealed-requires : tie.Need-sealed-requires
-sealed-requires c κs =
+signature-tested-requires : tie.Need-signature-tested-requires
+signature-tested-requires c κs =
     let c₄ = c .before .before .before .before in
     let c₆ = c₄ .before .before in
     let c₁₀ = c₆ .before .before .before .before in
-    omega (arith, c .unlocked .ensures .1, c .before .tested2 .ensures .1, c₄ .tested .ensures .1, c₆ .unjudged .ensures .1, c₁₀ .pre)
+    omega (arith, c .secret-tested .ensures .1, c .before .tested2 .ensures .1, c₄ .tested .ensures .1, c₆ .unjudged .ensures .1, c₁₀ .pre)
 
 returns : tie.Need-returns
 unfolding ruling dispute
@@ -20,7 +20,7 @@ returns c =
     let c₃ = c₂ .before in
     let c₆ = c₃ .before .before .before in
     let c₈ = c₆ .before .before in
-    c .ruled .ensures ∙ rw (c .before .sealed .ensures .0, c₂ .unlocked .ensures .0, c₃ .tested2 .ensures .0, c₆ .tested .ensures .0, c₈ .unjudged .ensures .0)
+    c .ruled .ensures ∙ rw (c .before .signature-tested .ensures .0, c₂ .secret-tested .ensures .0, c₃ .tested2 .ensures .0, c₆ .tested .ensures .0, c₈ .unjudged .ensures .0)
 
 pub dispute-spec : {M : Type 1} → statement M
 dispute-spec =
@@ -30,6 +30,6 @@ dispute-spec =
     (λ c κs. search needs)
     (λ c κs. search needs)
     (λ c κs. search needs)
-    sealed-requires
+    signature-tested-requires
     (λ c κs. search needs)
     returns)

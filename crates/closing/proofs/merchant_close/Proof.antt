@@ -11,7 +11,7 @@ returns c =
     let c₂ = c .before .before in
     let c₃ = c₂ .before in
     let c₅ = c₃ .before .before in
-    c .ruled .ensures ∙ rw (c₂ .sealed .ensures .0, c₃ .tested .ensures .0, c₅ .unjudged .ensures .0, c .before .deadline-from .ensures)
+    c .ruled .ensures ∙ rw (c₂ .signature-tested .ensures .0, c₃ .tested .ensures .0, c₅ .unjudged .ensures .0, c .before .deadline-from .ensures)
 
 pub merchant-close-spec : {M : Type 1} → statement M
 merchant-close-spec =

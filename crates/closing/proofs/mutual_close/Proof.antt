@@ -6,12 +6,12 @@ use borrow.Author.Needs.{needs}
 use Rattle.closing.proofs.mutual_close.Statement.{statement}
 use Rattle.closing.proofs.mutual_close.Tie as tie
 
-sealed-requires-2 : tie.Need-sealed-requires-2
-sealed-requires-2 c κs =
+signature-tested-requires-2 : tie.Need-signature-tested-requires-2
+signature-tested-requires-2 c κs =
     let c₄ = c .before .before .before .before in
     let c₆ = c₄ .before .before in
     let c₁₂ = c₆ .before .before .before .before .before .before in
-    omega (arith, c .sealed .ensures .1, c .before .tested2 .ensures .1, c₄ .tested .ensures .1, c₆ .unjudged .ensures .1, c₁₂ .pre .1)
+    omega (arith, c .signature-tested .ensures .1, c .before .tested2 .ensures .1, c₄ .tested .ensures .1, c₆ .unjudged .ensures .1, c₁₂ .pre .1)
 
 returns : tie.Need-returns
 unfolding ruling mutualClose
@@ -24,7 +24,7 @@ returns c =
     let c₈ = c₆ .before .before in
     let c₉ = c₈ .before in
     let c₁₀ = c₉ .before in
-    c .ruled .ensures ∙ rw (c .before .sealed2 .ensures .0, c₂ .sealed .ensures .0, c₃ .tested2 .ensures .0, c₄ .sums-to .ensures, c₅ .total-of .ensures, c₆ .tested .ensures .0, c₈ .unjudged .ensures .0, c₉ .u64-at2 .ensures, c₁₀ .u64-at .ensures)
+    c .ruled .ensures ∙ rw (c .before .signature-tested2 .ensures .0, c₂ .signature-tested .ensures .0, c₃ .tested2 .ensures .0, c₄ .sums-to .ensures, c₅ .total-of .ensures, c₆ .tested .ensures .0, c₈ .unjudged .ensures .0, c₉ .u64-at2 .ensures, c₁₀ .u64-at .ensures)
 
 pub mutual-close-spec : {M : Type 1} → statement M
 mutual-close-spec =
@@ -38,6 +38,6 @@ mutual-close-spec =
     (λ c κs. search needs)
     (λ c κs. search needs)
     (λ c κs. search needs)
-    sealed-requires-2
+    signature-tested-requires-2
     (λ c κs. search needs)
     returns)

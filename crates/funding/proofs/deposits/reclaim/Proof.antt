@@ -10,7 +10,7 @@ unfolding ruling reclaim
 returns c =
     let c₂ = c .before .before in
     let c₄ = c₂ .before .before in
-    c .ruled .ensures ∙ rw (c .before .sealed .ensures .0, c₂ .tested .ensures .0, c₄ .unjudged .ensures .0)
+    c .ruled .ensures ∙ rw (c .before .signature-tested .ensures .0, c₂ .tested .ensures .0, c₄ .unjudged .ensures .0)
 
 pub reclaim-spec : {M : Type 1} → statement M
 reclaim-spec =

@@ -8,21 +8,7 @@ unfolding keyed
 returns c =
     let c₁ = c .before in
     let c₃ = c₁ .before .before in
-    let c₅ = c₃ .before .before in
-    let c₇ = c₅ .before .before in
-    rw (c .same-key .ensures, c₇ .u32-at .ensures, c₅ .u32-at2 .ensures, c₃ .u32-at3 .ensures, c₁ .u32-at4 .ensures)
+    rw (c .same-key .ensures, c₃ .typed-key .ensures, c₁ .typed-key2 .ensures)
 
 pub keys-fit-spec : {M : Type 1} → statement M
-keys-fit-spec =
-    tie.close
-    (tie.spec
-    (λ c. search needs)
-    (λ c κs. search needs)
-    (λ c. search needs)
-    (λ c κs. search needs)
-    (λ c. search needs)
-    (λ c κs. search needs)
-    (λ c. search needs)
-    (λ c κs. search needs)
-    (λ c κs. search needs)
-    returns)
+keys-fit-spec = tie.close (tie.spec (λ c. search needs) (λ c κs. search needs) (λ c. search needs) (λ c κs. search needs) (λ c κs. search needs) returns)

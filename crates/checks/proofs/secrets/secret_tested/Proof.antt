@@ -9,8 +9,8 @@ use Rattle.sha256.specs.Digest.{sha256}
 use Rattle.sha256.specs.Answer.{hashAnswer}
 use Rattle.machine.specs.Format.{secret}
 use Rattle.machine.proofs.Judging.{ask-stop}
-use Rattle.checks.proofs.secrets.unlocked.Statement.{statement}
-use Rattle.checks.proofs.secrets.unlocked.Tie as tie
+use Rattle.checks.proofs.secrets.secret_tested.Statement.{statement}
+use Rattle.checks.proofs.secrets.secret_tested.Tie as tie
 
 -- A secret is below the hash's limit.
 secret-hash : (s : List ℕ) → (hashAnswer (secret s)) .digest ≡ sha256 (secret s)
@@ -27,8 +27,8 @@ returns-2 c =
     let c₈ = c₃ .before .before .before .before .before in
     (c .tested .ensures .0 ∙ rw (c .before .same-digest .ensures, c₃ .hash .ensures, secret-hash (c₈ .args .command .now)), c .tested .ensures .1)
 
-pub unlocked-spec : {M : Type 1} → statement M
-unlocked-spec =
+pub secret-tested-spec : {M : Type 1} → statement M
+secret-tested-spec =
     tie.close
     (tie.spec
     returns

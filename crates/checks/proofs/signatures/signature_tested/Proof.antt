@@ -8,8 +8,8 @@ use Rattle.machine.specs.Machine.{verdict}
 use Rattle.machine.proofs.Judging.{ask-stop}
 use Rattle.checks.proofs.Asking.{ask-signed, steps-most}
 use borrow.Author.Needs.{needs}
-use Rattle.checks.proofs.signatures.sealed.Statement.{statement}
-use Rattle.checks.proofs.signatures.sealed.Tie as tie
+use Rattle.checks.proofs.signatures.signature_tested.Statement.{statement}
+use Rattle.checks.proofs.signatures.signature_tested.Tie as tie
 
 returns : tie.Need-returns
 returns c = (sym (ask-stop _ _ (c .if1 .taken)), omega arith)
@@ -32,8 +32,8 @@ returns-2 c =
     let e = rw (c₇ .signed-message .ensures, add-sub-cancel-left) at (c₃ .check .ensures) in
     (c .tested .ensures .0 ∙ ask-signed _ _ _ _ e _ _ (c₇ .before .if1 .left), omega (arith, c .tested .ensures .1, steps-most _ _ _ _ e))
 
-pub sealed-spec : {M : Type 1} → statement M
-sealed-spec =
+pub signature-tested-spec : {M : Type 1} → statement M
+signature-tested-spec =
     tie.close
     (tie.spec
     returns

@@ -1,0 +1,12 @@
+// The limits of document 01, and the mark.
+
+// The mark that every opening writes: "arbiter!" in bytes.
+pub const MARK: u64 = 0x6172626974657221;
+
+// The largest clock and the largest total, 2^63 - 1.
+pub const LIMIT: u64 = 9223372036854775807;
+
+// The shortest and the longest delay.
+pub const SHORTEST: u32 = 3600;
+
+pub const LONGEST: u32 = 2592000;
