@@ -1,21 +1,21 @@
--- What `Runs` says of a run, with no program logic: what comes next, what a command that goes has room for, and the run after some turns.
+-- What `Runs` says of a run, with no program logic: what comes next at a place, and the run after some turns.
 use mathlib.Core.Path.{_≡_, refl, sym, _∙_, ap}
-use mathlib.Core.Bool.{Bool, true, false, cond, false≢true}
+use mathlib.Core.Bool.{true, false}
 use Prim.Native.Nat.{ℕ, suc, _+_, _-_, _<_, _≤_}
-use native.Mathlib.Nat.{add-zero, zero-add, add-assoc, lt-suc-self}
+use native.Mathlib.Nat.{add-zero, lt-suc-self}
 use native.Mathlib.Omega.{arith}
 use native.Mathlib.Numerals.{add-one}
-use mathlib.Core.List.{List, [], _∷_, _++_, append-assoc}
-use lib.Dec.{eqb, ltb}
+use mathlib.Core.List.{List, [], _∷_, _++_}
 use lib.ListN.{length, getD, set, take, drop, length-drop, length-set, take-append-drop}
 use lib.Seq.{getD-drop, drop-cons, drop-drop, drop-set-lt, take-suc-set}
-use borrow.Author.Tests.{eq-eqb, ne-eqb, lt-ltb, le-ltb, eqb-false, ltb-false}
-use Rattle.machine.specs.Format.{opcode, size}
+use borrow.Author.Tests.{eq-eqb, ne-eqb, lt-ltb, le-ltb}
+use Rattle.machine.specs.Format.{size}
 use Rattle.machine.specs.declared.state.Book.{Book}
 use Rattle.journal.specs.declared.lines.Line.{Line}
 use Rattle.journal.specs.declared.next.Ahead.{Ahead}
 use Rattle.journal.specs.declared.runs.Ran.{Ran}
-use Rattle.journal.specs.Runs.{Next, stop, go, nextBy, nextOf, aheadOf, turnedOf, Done, stopped, after, runOf, ranOf}
+use Rattle.journal.specs.Runs.{Next, stop, nextBy, nextOf, aheadOf, turnedOf, Done, stopped, prefixed, runOf, ranOf}
+use Rattle.journal.proofs.Turning.{fits, run-go, run-stop, prefixed-none, prefixed-twice}
 
 -- What comes next at a place of the bytes, with so many lines left.
 module _ (cs : List ℕ) (at room : ℕ) where
@@ -54,33 +54,9 @@ module _ (cs : List ℕ) (at room : ℕ) where
   unfolding nextBy
   goes-on a b c d = ap (aheadOf at) (sym (by-numbers ∙ simp (ne-eqb left 0 a, ne-eqb room 0 b, ne-eqb whole 0 c, le-ltb left whole d)))
 
--- A command that goes has a line to write, and bytes enough.
-go-by : (l r s : ℕ) (a b c d : Bool) → eqb r 0 ≡ b → ltb l s ≡ d → cond a (stop 0) (cond b (stop 13) (cond c (stop 1) (cond d (stop 2) (go s)))) .goes ≡ true
-    → (0 < r) × (cond a (stop 0) (cond b (stop 13) (cond c (stop 1) (cond d (stop 2) (go s)))) .size ≤ l)
-go-by l r s true b c d eb ed e = absurd (false≢true e)
-go-by l r s false true c d eb ed e = absurd (false≢true e)
-go-by l r s false false true d eb ed e = absurd (false≢true e)
-go-by l r s false false false true eb ed e = absurd (false≢true e)
-go-by l r s false false false false eb ed e = let some : r ≡ 0 → ⊥ = eqb-false r 0 eb in (omega arith, ltb-false l s ed)
-
-go-room : (cs : List ℕ) (k : ℕ) → nextOf cs k .goes ≡ true → (0 < k) × (nextOf cs k .size ≤ length cs)
-unfolding nextBy
-go-room cs k e = go-by (length cs) k (size (opcode cs)) (eqb (length cs) 0) _ (eqb (size (opcode cs)) 0) _ refl refl e
-
--- The first turn of a run.
-run-go : (b : Book) (cs : List ℕ) (l : Line) (ls : List Line) (x : Next) → nextOf cs (suc (length ls)) ≡ x → x .goes ≡ true
-    → runOf b cs (l ∷ ls) ≡ after (turnedOf b (take (x .size) cs) .line ∷ []) 1 (x .size) (runOf (turnedOf b (take (x .size) cs) .book) (drop (x .size) cs) ls)
-unfolding runOf
-run-go b cs l ls x e c = simp (e, c)
-
-run-stop : (b : Book) (cs : List ℕ) (ls : List Line) (x : Next) → nextOf cs (length ls) ≡ x → x .goes ≡ false → runOf b cs ls ≡ stopped b ls (x .cause)
-unfolding runOf
-run-stop b cs [] x e c = simp e
-run-stop b cs (l ∷ ls) x e c = simp (e, c)
-
 -- The run d over cs, once n of the lines ys are written and so many bytes used: it is those, and then the run from there.
 abbrev Upto : List ℕ → Done → Book → List Line → ℕ → ℕ → Type 0
-Upto cs d h ys n at = d ≡ after (take n ys) n at (runOf h (drop at cs) (drop n ys))
+Upto cs d h ys n at = d ≡ prefixed (take n ys) n at (runOf h (drop at cs) (drop n ys))
 
 -- The run d over cs with m lines, before a turn.
 pub record State (cs : List ℕ) (m : ℕ) (d : Done) : Type 0 where
@@ -95,10 +71,7 @@ pub record State (cs : List ℕ) (m : ℕ) (d : Done) : Type 0 where
 
 -- Before the first turn.
 abbrev pub start : (h : Book) (cs : List ℕ) (ys : List Line) → State cs (length ys) (runOf h cs ys)
-start h cs ys = record { at = 0; n = 0; book = h; lines = ys; at-ok = omega arith; n-ok = omega arith; len = refl; upto = none }
-  where
-    none : Upto cs (runOf h cs ys) h ys 0 0
-    none = let d : Done = runOf h cs ys in λ i. record { book = d .book; lines = d .lines; count = sym (zero-add (d .count)) i; used = sym (zero-add (d .used)) i; cause = d .cause }
+start h cs ys = record { at = 0; n = 0; book = h; lines = ys; at-ok = omega arith; n-ok = omega arith; len = refl; upto = prefixed-none (runOf h cs ys) }
 
 module _ {cs : List ℕ} {m : ℕ} {d : Done} (z : State cs m d) where
   -- What is left of the bytes, and what comes next.
@@ -118,10 +91,11 @@ module _ {cs : List ℕ} {m : ℕ} {d : Done} (z : State cs m d) where
   -- A command that goes has a line, and ends among the bytes.
   pub has-room : (r : Ahead) → AheadIs r → r .goes ≡ true → (z .n < m) × ((z .at ≤ r .end) × (r .end ≤ length cs))
   has-room r e c =
-      let g : (0 < m - z .n) × (ahead .size ≤ length bytes) = go-room bytes (m - z .n) (sym (λ i. e i .goes) ∙ c) in
+      let f = fits bytes (m - z .n) in
+      let g : ahead .goes ≡ true = sym (λ i. e i .goes) ∙ c in
       let ends : r .end ≡ z .at + ahead .size = (λ i. e i .end) in
       let l : length bytes ≡ length cs - z .at = length-drop (z .at) cs in
-      (omega arith, (omega arith, omega (arith, z .at-ok)))
+      (omega (arith, f .line g), (omega arith, omega (arith, z .at-ok, f .there g)))
 
   -- The command, where it ends, and what it leaves.
   abbrev command : List ℕ
@@ -148,7 +122,7 @@ module _ {cs : List ℕ} {m : ℕ} {d : Done} (z : State cs m d) where
 
   -- The first turn of the run that is left is one more of the whole.
   one-more : z .n < m → ahead .goes ≡ true → Upto cs d book′ lines′ (z .n + 1) end
-  one-more lt c = z .upto ∙ first ∙ joined ∙ (λ i. after (wrote i) (z .n + 1) end (runOf book′ (drop end cs) (kept i)))
+  one-more lt c = z .upto ∙ first ∙ prefixed-twice written (z .n) (z .at) (line ∷ []) 1 (ahead .size) (runOf book′ (drop end cs) others) ∙ (λ i. prefixed (wrote i) (z .n + 1) end (runOf book′ (drop end cs) (kept i)))
     where
       within : z .n < length (z .lines)
       within = omega (arith, z .len)
@@ -156,15 +130,11 @@ module _ {cs : List ℕ} {m : ℕ} {d : Done} (z : State cs m d) where
       left-is : suc (length others) ≡ m - z .n
       left-is = omega (arith, z .len, length-drop (suc (z .n)) (z .lines))
 
-      first : after written (z .n) (z .at) (runOf (z .book) bytes (drop (z .n) (z .lines))) ≡ after written (z .n) (z .at) (after (line ∷ []) 1 (ahead .size) (runOf book′ (drop end cs) others))
-      first = ap (after written (z .n) (z .at))
+      first : prefixed written (z .n) (z .at) (runOf (z .book) bytes (drop (z .n) (z .lines))) ≡ prefixed written (z .n) (z .at) (prefixed (line ∷ []) 1 (ahead .size) (runOf book′ (drop end cs) others))
+      first = ap (prefixed written (z .n) (z .at))
           (ap (runOf (z .book) bytes) (drop-cons (z .lines) (z .n) line within)
           ∙ run-go (z .book) bytes (getD (z .lines) (z .n) line) others ahead (ap (nextOf bytes) left-is) c
-          ∙ ap (λ (rest : List ℕ). after (line ∷ []) 1 (ahead .size) (runOf book′ rest others)) (drop-drop (ahead .size) (z .at) cs))
-
-      joined : after written (z .n) (z .at) (after (line ∷ []) 1 (ahead .size) (runOf book′ (drop end cs) others)) ≡ after (written ++ (line ∷ [])) (z .n + 1) end (runOf book′ (drop end cs) others)
-      joined = let e : Done = runOf book′ (drop end cs) others in
-          sym (λ i. record { book = e .book; lines = append-assoc written (line ∷ []) (e .lines) i; count = add-assoc (z .n) 1 (e .count) i; used = add-assoc (z .at) (ahead .size) (e .used) i; cause = e .cause })
+          ∙ ap (λ (rest : List ℕ). prefixed (line ∷ []) 1 (ahead .size) (runOf book′ rest others)) (drop-drop (ahead .size) (z .at) cs))
 
       wrote : written ++ (line ∷ []) ≡ take (z .n + 1) lines′
       wrote = sym (ap (λ (j : ℕ). take j lines′) (add-one (z .n)) ∙ take-suc-set (z .lines) (z .n) line within)
@@ -174,7 +144,7 @@ module _ {cs : List ℕ} {m : ℕ} {d : Done} (z : State cs m d) where
 
   -- The same, by what the calls of the turn ensure.
   pub one-more-said : (r : Ahead) → AheadIs r → r .goes ≡ true → (l : Line) (h : Book) (ys : List Line) → TurnedIs (r .end) l h → ys ≡ set (z .lines) (z .n) l → Upto cs d h ys (z .n + 1) (r .end)
-  one-more-said r e c l h ys t w = one-more (has-room r e c .0) (sym (λ i. e i .goes) ∙ c) ∙ (λ i. after (take (z .n + 1) (lines i)) (z .n + 1) (ends i) (runOf (books i) (drop (ends i) cs) (drop (z .n + 1) (lines i))))
+  one-more-said r e c l h ys t w = one-more (has-room r e c .0) (sym (λ i. e i .goes) ∙ c) ∙ (λ i. prefixed (take (z .n + 1) (lines i)) (z .n + 1) (ends i) (runOf (books i) (drop (ends i) cs) (drop (z .n + 1) (lines i))))
     where
       ends : end ≡ r .end
       ends = sym (λ i. e i .end)
@@ -209,5 +179,5 @@ module _ {cs : List ℕ} {m : ℕ} {d : Done} (z : State cs m d) where
     sym (take-append-drop (z .n) (z .lines)) ∙ sym (λ i. all i .lines),
   )
     where
-      all : d ≡ after written (z .n) (z .at) (stopped (z .book) (drop (z .n) (z .lines)) (ahead .cause))
-      all = z .upto ∙ ap (after written (z .n) (z .at)) (run-stop (z .book) bytes (drop (z .n) (z .lines)) ahead (ap (nextOf bytes) (length-drop (z .n) (z .lines) ∙ ap (λ (k : ℕ). k - z .n) (z .len))) (sym (λ i. e i .goes) ∙ c))
+      all : d ≡ prefixed written (z .n) (z .at) (stopped (z .book) (drop (z .n) (z .lines)) (ahead .cause))
+      all = z .upto ∙ ap (prefixed written (z .n) (z .at)) (run-stop (z .book) bytes (drop (z .n) (z .lines)) ahead (ap (nextOf bytes) (length-drop (z .n) (z .lines) ∙ ap (λ (k : ℕ). k - z .n) (z .len))) (sym (λ i. e i .goes) ∙ c))

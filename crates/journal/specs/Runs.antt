@@ -61,8 +61,8 @@ abbrev pub stopped : Book → List Line → ℕ → Done
 stopped b ls c = record { book = b; lines = ls; count = 0; used = 0; cause = c }
 
 -- A run after n lines written and u bytes used.
-abbrev pub after : List Line → ℕ → ℕ → Done → Done
-after ls n u d = record { book = d .book; lines = ls ++ d .lines; count = n + d .count; used = u + d .used; cause = d .cause }
+abbrev pub prefixed : List Line → ℕ → ℕ → Done → Done
+prefixed ls n u d = record { book = d .book; lines = ls ++ d .lines; count = n + d .count; used = u + d .used; cause = d .cause }
 
 -- A command that goes is given to the book, and the rest of the journal to the book that it leaves.
 unfoldable pub runOf : Book → List ℕ → List Line → Done
@@ -70,7 +70,7 @@ runOf b cs [] = stopped b [] ((nextOf cs 0) .cause)
 runOf b cs (l ∷ ls) =
     let x = nextOf cs (suc (length ls)) in
     let t = turnedOf b (take (x .size) cs) in
-    cond (x .goes) (after (t .line ∷ []) 1 (x .size) (runOf (t .book) (drop (x .size) cs) ls)) (stopped b (l ∷ ls) (x .cause))
+    cond (x .goes) (prefixed (t .line ∷ []) 1 (x .size) (runOf (t .book) (drop (x .size) cs) ls)) (stopped b (l ∷ ls) (x .cause))
 
 abbrev pub ranOf : Done → Ran
 ranOf d = record { lines = d .count; used = d .used; cause = d .cause }
