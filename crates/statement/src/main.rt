@@ -1,21 +1,20 @@
 // Reads a book's id and a journal from standard input, and prints a line for each command and a last one for the journal.
+mod input;
 mod output;
-mod statement;
-mod text;
+mod printing;
 
-use crate::output::print;
-use crate::statement::print_input;
-use libc::STDIN_FILENO;
+use crate::input::input_buffer;
+use crate::input::read_input;
+use crate::output::complain;
+use crate::printing::print_statement;
 
 fn main() {
-    let mut input = io::large_buffer();
-    let n = io::read_full(STDIN_FILENO, &mut input);
-    if n == 65536 {
-        let mut more = [0u8; 1];
-        if io::read_full(STDIN_FILENO, &mut more) != 0 {
-            print(b"too long\n");
-            return;
-        }
+    let mut input = input_buffer();
+    let taken = read_input(&mut input);
+    if taken.failed {
+        complain(b"statement: the input failed\n");
+        return;
     }
-    print_input(&input[..n]);
+    let n = taken.n;
+    print_statement(&input[..n]);
 }

@@ -1,16 +1,19 @@
-// Standard output.
+// Standard output and standard error.
+use libc::STDERR_FILENO;
 use libc::STDOUT_FILENO;
-ghost use Prim.Native.Nat.{_≤_};
-ghost use lib.ListN.{length};
+use report::Text;
+ghost use Rattle.io.specs.Counts.{Counts};
 
-// Writes all of the bytes, and answers whether they were taken: a closed output takes none.
-pub fn print(bytes: &[u8]) -> bool {
-    io::write_all(STDOUT_FILENO, bytes)
+// Writes a text, and answers whether it was taken: a closed output takes none.
+pub fn print(text: Text) -> bool
+    requires { ⌜ Counts (text .size) (text .bytes) ⌝ }
+{
+    let bytes = text.bytes;
+    let n = text.size;
+    io::write_all(STDOUT_FILENO, &bytes[..n])
 }
 
-// The same of the first n bytes.
-pub fn print_first(bytes: &[u8], n: usize) -> bool
-    requires { ⌜ n ≤ length (now bytes) ⌝ }
-{
-    print(&bytes[0..n])
+// Says what went wrong.
+pub fn complain(line: &[u8]) {
+    io::write_all(STDERR_FILENO, line);
 }

@@ -1,0 +1,10 @@
+-- Numbers as text; texts over bytes; rows and lines; texts in a buffer; the run of a part; runs as text; the parts joined; printing them.
+pub mod Numerals
+pub mod Examples
+pub mod Pasting
+pub mod Rows
+pub mod Buffers
+pub mod Going
+pub mod RunTexts
+pub mod Joined
+pub mod Ahead

@@ -1,0 +1,61 @@
+-- Rows of numbers, and lines, one after another.
+use Prim.Native.Nat.{ℕ, suc, _+_, _≤_, _<_}
+use native.Mathlib.Numerals.{add-one}
+use native.Mathlib.Omega.{arith}
+use mathlib.Core.Path.{_≡_, sym, ap, _∙_}
+use mathlib.Core.List.{List, [], _∷_, _++_}
+use lib.ListN.{length, take, drop, getD, drop-of-length-le, length-append, length-take}
+use lib.Seq.{drop-cons, append-snoc, getD-take, paste}
+use Rattle.journal.specs.declared.lines.Line.{Line}
+use Rattle.report.specs.Numbers.{decimal, closer, row, pasted}
+use Rattle.report.specs.Lines.{fields, linesFrom, endWord, endLine}
+use Rattle.report.specs.Statement.{noLine}
+use Rattle.report.proofs.Pasting.{pasted-more}
+
+-- The last number is closed by 0A, any other by a blank.
+pub closes-last : (ns : List ℕ) (k : ℕ) → k ≡ length ns → 10 ≡ closer (drop k ns)
+unfolding closer
+closes-last ns k e = let h : length ns ≤ k = omega arith in rw (drop-of-length-le ns h)
+
+pub closes-other : (ns : List ℕ) (k : ℕ) → k < length ns → 32 ≡ closer (drop k ns)
+unfolding closer
+closes-other ns k h = rw (drop-cons ns k 0)
+
+-- A number and the byte that closes it, and the rest of the row.
+pub row-split : (ns : List ℕ) (i x : ℕ) → i < length ns → x ≡ closer (drop (i + 1) ns)
+    → row (drop i ns) ≡ (decimal (getD ns i 0) ++ (x ∷ [])) ++ row (drop (i + 1) ns)
+unfolding row
+row-split ns i x h e =
+    ap row (drop-cons ns i 0 h)
+    ∙ sym (append-snoc (decimal (getD ns i 0)) (closer (drop (suc i) ns)) (row (drop (suc i) ns)))
+    ∙ rw (e, add-one)
+
+-- Past the last number.
+pub none-left : (ns : List ℕ) (i : ℕ) → length ns ≤ i → row (drop i ns) ≡ []
+unfolding row
+none-left ns i h = rw (drop-of-length-le ns h)
+
+-- The last line: the word and its numbers.
+pub end-put : (d e out : List ℕ) (at used cause w r : ℕ) → e ≡ paste d at endWord 4 → w ≡ cause
+    → out ≡ pasted e (at + 4) (row (used ∷ w ∷ [])) → r ≡ at + 4 + length (row (used ∷ w ∷ [])) → at + 4 ≤ length d
+    → (out ≡ pasted d at (endLine used cause)) × (r ≡ at + length (endLine used cause))
+unfolding endLine pasted
+end-put d e out at used cause w r p q o l h =
+    let n : length (endLine used cause) ≡ 4 + length (row (used ∷ cause ∷ [])) = length-append endWord (row (used ∷ cause ∷ [])) in
+    (o ∙ rw (p, q) (pasted-more d at endWord (row (used ∷ cause ∷ [])) h), (rw q at l) ∙ omega (arith, n))
+
+-- ---- lines
+
+-- A line and those after it, of the first so many.
+pub lines-split : (n count : ℕ) (ls : List Line) (i : ℕ) → i < count → count ≤ length ls
+    → linesFrom (n + i) (drop i (take count ls)) ≡ row (fields (n + i) (getD ls i noLine)) ++ linesFrom (n + (i + 1)) (drop (i + 1) (take count ls))
+unfolding linesFrom
+lines-split n count ls i h k =
+    let b : i < length (take count ls) = simp length-take (omega arith) in
+    let e : suc (n + i) ≡ n + (i + 1) = omega arith in
+    ap (linesFrom (n + i)) (drop-cons (take count ls) i noLine b)
+    ∙ rw (getD-take count ls i noLine h, e, add-one)
+
+pub no-lines-left : (n count : ℕ) (ls : List Line) (i : ℕ) → count ≤ i → linesFrom n (drop i (take count ls)) ≡ []
+unfolding linesFrom
+no-lines-left n count ls i h = let b : length (take count ls) ≤ i = simp length-take (omega arith) in rw (drop-of-length-le (take count ls) b)

@@ -1,0 +1,24 @@
+use native.Mathlib.Omega.{arith}
+use borrow.Author.Needs.{needs}
+use Rattle.report.specs.Lines.{fields}
+use Rattle.report.proofs.lines.put_line.Statement.{statement}
+use Rattle.report.proofs.lines.put_line.Tie as tie
+
+returns : tie.Need-returns
+unfolding fields
+returns c =
+    let p = c .before .before .put-row in
+    let w = c .before .before .before .before .before .before .wide .ensures .0 in
+    (rw w at (p .ensures .0), rw w at (p .ensures .1), omega (arith, p .ensures .2))
+
+pub put-line-spec : {M : Type 1} → statement M
+put-line-spec =
+    tie.close
+    (tie.spec
+    (λ c κs. search needs)
+    (λ c. search needs)
+    (λ c. search needs)
+    (λ c. search needs)
+    (λ c κs. search needs)
+    (λ c. search needs)
+    returns)
