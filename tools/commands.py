@@ -26,9 +26,13 @@ def digits(I, message, leaf, C):
     return Q + u16(sum(255 - x for x in Q))
 
 
+def step_count(digits):
+    return sum(255 - d for d in digits)
+
+
 def steps_of(I, message, signature):
     """The chain steps of a check."""
-    return sum(255 - d for d in digits(I, message, signature[:4], signature[8:40]))
+    return step_count(digits(I, message, signature[:4], signature[8:40]))
 
 
 def walk(prefix, start, end, value):
@@ -56,9 +60,12 @@ class Signer:
         ends = [walk(self.prefix(q, i), 0, 255, self.string(q, i)) for i in range(34)]
         return H(self.I, u32(q), b"\x80\x80", *ends)
 
-    def sign(self, message):
+    def sign(self, message, least=0):
+        """A signature whose check takes at least so many chain steps."""
         q, self.leaf = self.leaf, self.leaf + 1
         C = H(b"C", self.seed, u32(q))
+        while step_count(digits(self.I, message, u32(q), C)) < least:
+            C = H(C)
         strings = [walk(self.prefix(q, i), 0, d, self.string(q, i)) for i, d in enumerate(digits(self.I, message, u32(q), C))]
         node, path = 1024 + q, []
         while node > 1:
@@ -83,7 +90,51 @@ def settle(n):
     return b"\x0a" + u16(n)
 
 
-def signed(op, id, n, operands, *signers):
-    """A command with the signatures of its signers, in their order."""
+def signed(op, id, n, operands, *signers, least=0):
+    """A command with the signatures of its signers, in their order, each of at least so many steps."""
     message = bytes([op]) + id + u16(n) + operands
-    return bytes([op]) + u16(n) + operands + b"".join(signer.sign(message) for signer in signers)
+    return bytes([op]) + u16(n) + operands + b"".join(signer.sign(message, least) for signer in signers)
+
+
+# Where the first signature of a command stands.
+SIGNATURE_AT = {5: 3, 6: 19, 7: 51, 8: 3, 9: 35}
+SIGNATURE = 1452
+
+
+def spoiled(data, *places):
+    """The command with a bit changed in each of the signatures named: 0 is the first, 1 the second."""
+    changed = bytearray(data)
+    for i in places:
+        changed[SIGNATURE_AT[data[0]] + SIGNATURE * i + 100] ^= 1
+    return bytes(changed)
+
+
+def flipped(data, at, bit=0):
+    """The bytes with one bit changed."""
+    return data[:at] + bytes([data[at] ^ 1 << bit]) + data[at + 1 :]
+
+
+class Journal:
+    """The commands after a book's id, and the lines that the statement must print for them."""
+
+    def __init__(self, id):
+        self.id, self.commands, self.lines = id, [], []
+
+    def file(self, data, refusal=0, customer=0, merchant=0, checked=()):
+        """A command, and its line. `checked` names whose signatures are checked, a failing one included."""
+        steps = 0
+        for i, signer in enumerate(checked):
+            start = SIGNATURE_AT[data[0]]
+            message = data[:1] + self.id + data[1:start]
+            steps += steps_of(signer.I, message, data[start + SIGNATURE * i :])
+        self.commands.append(data)
+        self.lines.append(f"{len(self.lines) + 1} {refusal} {customer} {merchant} {steps}\n")
+
+    def save(self, journal, statement, rest=b"", cause=0):
+        """Writes both files; `rest` is what the journal holds after its last command, and why the run stops there."""
+        commands = b"".join(self.commands)
+        assert 16 + len(commands) + len(rest) <= 65536
+        with open(journal, "wb") as file:
+            file.write(self.id + commands + rest)
+        with open(statement, "w") as file:
+            file.write("".join(self.lines) + f"end {len(commands)} {cause}\n")

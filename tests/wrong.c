@@ -1,0 +1,88 @@
+// One wrong function for a library, which the macros name: tests/wrong puts it in the place of the right one, here called `right`.
+#include "../include/finaruvom.h"
+#include <string.h>
+
+static inline void swap(struct finaruvom_answer *answer) {
+    uint64_t customer = answer->customer;
+    answer->customer = answer->merchant;
+    answer->merchant = customer;
+}
+
+#ifdef OPEN
+uint8_t right(struct finaruvom_book *book, const uint8_t *id, size_t id_n);
+
+uint8_t finaruvom_open(struct finaruvom_book *book, const uint8_t *id, size_t id_n) {
+#ifdef CLEARS_FIRST
+    memset(book, 0, sizeof *book);
+#endif
+    uint8_t refusal = right(book, id, id_n);
+#ifdef ANOTHER_MARK
+    book->mark += refusal == 0;
+#endif
+    return refusal;
+}
+#endif
+
+#ifdef APPLY
+struct finaruvom_answer right(struct finaruvom_book *book, const uint8_t *command, size_t command_n);
+
+struct finaruvom_answer finaruvom_apply(struct finaruvom_book *book, const uint8_t *command, size_t command_n) {
+#ifdef COPIES
+    static struct finaruvom_book copy;
+    memcpy(&copy, book, sizeof copy);
+#endif
+#ifdef DEEP
+    volatile uint8_t room[2 * sizeof *book];
+    (void)room;
+#endif
+    struct finaruvom_answer answer = right(book, command, command_n);
+#ifdef SWAPS
+    swap(&answer);
+#endif
+#ifdef SWAPS_PARTIES
+    for (int i = 0; i < 64; i++) {
+        struct finaruvom_party customer = book->channels[i].customer;
+        book->channels[i].customer = book->channels[i].merchant;
+        book->channels[i].merchant = customer;
+    }
+#endif
+#ifdef NO_STEPS
+    answer.steps = 0;
+#endif
+    return answer;
+}
+#endif
+
+#ifdef READ // HELD_IS_TOTAL
+struct finaruvom_reading right(const struct finaruvom_book *book, size_t n);
+
+struct finaruvom_reading finaruvom_read(const struct finaruvom_book *book, size_t n) {
+    struct finaruvom_reading reading = right(book, n);
+    reading.held = reading.total;
+    return reading;
+}
+#endif
+
+#ifdef DUE // NEVER
+struct finaruvom_found finaruvom_due(const struct finaruvom_book *book) {
+    (void)book;
+    return (struct finaruvom_found){0};
+}
+#endif
+
+#ifdef RUN
+struct finaruvom_ran right(struct finaruvom_book *book, const uint8_t *commands, size_t commands_n, struct finaruvom_line *lines, size_t lines_n);
+
+struct finaruvom_ran finaruvom_run(struct finaruvom_book *book, const uint8_t *commands, size_t commands_n, struct finaruvom_line *lines,
+                                   size_t lines_n) {
+    struct finaruvom_ran ran = right(book, commands, commands_n, lines, lines_n);
+#ifdef SWAPS
+    for (size_t i = 0; i < ran.lines; i++)
+        swap(&lines[i].answer);
+#endif
+#ifdef CLEARS_LATER
+    memset(lines + ran.lines, 0, (lines_n - ran.lines) * sizeof *lines);
+#endif
+    return ran;
+}
+#endif
