@@ -129,11 +129,16 @@ fn deadline(rng: &mut Rng, clock: u64) -> u64 {
     }
 }
 
-/// A lock with a known secret, zeros, or any bytes.
-fn lock(rng: &mut Rng, wallet: &Wallet) -> [u8; 32] {
+/// A lock with a known secret, one bit off such a lock, zeros, or any bytes.
+pub fn lock(rng: &mut Rng, wallet: &Wallet) -> [u8; 32] {
+    let mut lock = digest(&rng.pick(wallet.secrets()));
     match rng.below(8) {
-        0 => [0; 32],
-        1 => rng.array(),
-        _ => digest(&rng.pick(wallet.secrets())),
+        0 => lock = [0; 32],
+        1 => lock = rng.array(),
+        2 => rng.flip_bit(&mut lock[..1]),
+        3 => rng.flip_bit(&mut lock[31..]),
+        4 => rng.flip_bit(&mut lock),
+        _ => {}
     }
+    lock
 }

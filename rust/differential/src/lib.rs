@@ -3,6 +3,7 @@
 mod arbitrary;
 pub mod bridge;
 mod fence;
+mod kinds;
 mod maker;
 mod options;
 mod pair;

@@ -1,9 +1,10 @@
 //! Commands for a book whose state is known.
+use crate::arbitrary;
 use crate::plan::Plan;
 use crate::rng::Rng;
 use crate::spoil;
 use crate::wallet::Wallet;
-use oracle::{digest, Book, Channel, SIGNATURE};
+use oracle::{Book, Channel, SIGNATURE};
 
 /// Deposits that are agreed often, so that signatures come back.
 const DEPOSITS: [[u64; 2]; 8] = [
@@ -37,19 +38,17 @@ impl<'a> Maker<'a> {
         }
     }
 
-    /// A command that may be right, wrong in one thing, out of its turn, damaged or repeated.
+    /// A command that may be right, wrong in some things, out of its turn, damaged or repeated.
     pub fn command(&mut self, book: &Book) -> Vec<u8> {
-        let n = self.rng.pick(&self.channels);
-        let opcode = self.fitting(book, n);
-        let mut plan = self.plan(book, n, opcode);
+        let mut plan = self.right(book);
         match self.rng.below(20) {
             0..=9 => {}
             10..=14 => spoil::plan(self.rng, &mut plan),
             15 => {
                 let opcode = 1 + self.rng.below(10) as u8;
-                plan = self.plan(book, n, opcode);
+                plan = self.plan(book, plan.n, opcode);
             }
-            16 => plan = self.plan(book, n, 1),
+            16 => plan = self.plan(book, plan.n, 1),
             17 if !self.accepted.is_empty() => return self.repeated(),
             _ => {
                 let bytes = self.write(book, &plan);
@@ -57,6 +56,18 @@ impl<'a> Maker<'a> {
             }
         }
         self.write(book, &plan)
+    }
+
+    /// A command that is wrong in some things.
+    pub fn wrong(&mut self, book: &Book) -> Vec<u8> {
+        let mut plan = self.right(book);
+        spoil::plan(self.rng, &mut plan);
+        self.write(book, &plan)
+    }
+
+    /// A dispute of this channel, signed by nobody.
+    pub fn dispute(&mut self, book: &Book, n: u16) -> Vec<u8> {
+        self.plan(book, n, 9).write(|_, _| [0; SIGNATURE])
     }
 
     /// A command without signatures that fits where there is one.
@@ -90,6 +101,13 @@ impl<'a> Maker<'a> {
     fn repeated(&mut self) -> Vec<u8> {
         let at = self.rng.below(self.accepted.len());
         self.accepted[at].clone()
+    }
+
+    /// A right command for one of the channels, where there is one.
+    fn right(&mut self, book: &Book) -> Plan {
+        let n = self.rng.pick(&self.channels);
+        let opcode = self.fitting(book, n);
+        self.plan(book, n, opcode)
     }
 
     /// A command that the channel's status allows, where there is one.
@@ -163,19 +181,24 @@ impl<'a> Maker<'a> {
         }
     }
 
-    /// Two different keys.
+    /// Two different keys with the right types, at times different in one bit alone.
     fn keys(&mut self) -> [[u8; 56]; 2] {
         let customer = self.rng.below(Wallet::PARTIES);
         let apart = 1 + self.rng.below(Wallet::PARTIES - 1);
-        [customer, (customer + apart) % Wallet::PARTIES].map(|party| self.wallet.key(party))
+        let parties = [customer, (customer + apart) % Wallet::PARTIES];
+        let mut keys = parties.map(|party| self.wallet.key(party));
+        if self.rng.one_in(6) {
+            keys[0] = keys[1];
+            self.rng.flip_bit(&mut keys[customer % 2][8..]);
+        }
+        keys
     }
 
-    /// A lock, or the secret of the channel's lock.
+    /// A lock, or the secret that opens the channel's lock or would but for some bits.
     fn string(&mut self, channel: &Channel, opcode: u8) -> [u8; 32] {
-        let secret = self.rng.pick(self.wallet.secrets());
         match opcode {
-            9 => self.wallet.secret_of(&channel.lock).unwrap_or(secret),
-            _ => digest(&secret),
+            9 => self.wallet.secret_near(&channel.lock),
+            _ => arbitrary::lock(self.rng, self.wallet),
         }
     }
 }

@@ -7,9 +7,9 @@ pub const USAGE: &str = "differential [--seed N] [--seconds N | --cases N] [--pa
 /// When a run ends.
 #[derive(Clone, Copy)]
 pub enum Limit {
-    /// After this time.
+    /// After this time, and some rounds.
     Time(Duration),
-    /// After so many cases of each part.
+    /// After so many cases of each part, at least one.
     Cases(u64),
 }
 

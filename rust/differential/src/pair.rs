@@ -3,6 +3,7 @@
 mod journal;
 
 use crate::bridge::{mark, to_answer, to_oracle, to_raw};
+use crate::kinds::kind;
 use crate::tally::Tally;
 use finaruvom::{raw, Book};
 
@@ -54,6 +55,12 @@ impl Pair {
         let library = self.library.apply(command);
         let oracle = oracle::apply(&mut self.oracle, command);
         tally.answer(command, oracle.refusal);
+        if oracle.refusal != 0 {
+            tally.refused(command, &oracle::noes(&self.oracle, command));
+        }
+        if let Some(kind) = kind(&self.oracle, command, oracle.refusal) {
+            tally.compared(kind);
+        }
         if let (0, Some(before), Some(after)) =
             (oracle.refusal, before, status(&self.oracle, command))
         {
@@ -77,7 +84,7 @@ impl Pair {
         for (n, channel) in library.channels.iter().enumerate() {
             same(&format!("channel {n}"), channel, &oracle.channels[n])?;
         }
-        Ok(())
+        same("book", library, &oracle)
     }
 }
 

@@ -1,6 +1,7 @@
 //! The kinds of cases. A case depends on its seed alone.
 mod books;
 mod boundary;
+mod faults;
 mod hashes;
 mod journals;
 mod runs;
@@ -35,6 +36,7 @@ pub const PARTS: &[Part] = &[
     part("journals", journals::case),
     part("strings", strings::case),
     part("books", books::case),
+    part("faults", faults::case),
     part("signatures", signatures::case),
     part("hashes", hashes::case),
     part("boundary", boundary::case),

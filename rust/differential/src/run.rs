@@ -3,6 +3,9 @@ use crate::options::{Limit, Options, USAGE};
 use crate::parts::{Part, World, PARTS};
 use std::time::Instant;
 
+/// Rounds of a run that ends by time, at least: a slow machine too meets all that must be met.
+const LEAST: u64 = 20;
+
 /// Runs the cases in rounds of one for each part; gives the tally, or what differs.
 pub fn run(options: &Options) -> Result<String, String> {
     let parts = chosen(options)?;
@@ -40,7 +43,7 @@ fn chosen(options: &Options) -> Result<Vec<Part>, String> {
 
 fn goes_on(limit: Limit, round: u64, start: Instant) -> bool {
     match limit {
-        Limit::Time(time) => start.elapsed() < time,
-        Limit::Cases(cases) => round < cases,
+        Limit::Time(time) => round < LEAST || start.elapsed() < time,
+        Limit::Cases(cases) => round < cases.max(1),
     }
 }

@@ -13,16 +13,19 @@ fn spoils(opcode: u8) -> &'static [Spoil] {
         3 | 4 => &[rename, numbers],
         5 | 8 => &[rename, signer, signed],
         6 => &[rename, numbers, signer, signer, signed],
-        7 => &[rename, string, numbers, signer, signer, signed],
+        7 => &[rename, numbers, signer, signer, signed],
         9 => &[rename, string, signer, signed],
         _ => &[rename],
     }
 }
 
-/// Changes one thing in a plan; signers sign what it then says.
+/// Changes one, two or three things in a plan; signers sign what it then says.
 pub fn plan(rng: &mut Rng, plan: &mut Plan) {
-    let spoil = rng.pick(spoils(plan.opcode));
-    spoil(rng, plan);
+    let mut left = spoils(plan.opcode).to_vec();
+    for _ in 0..left.len().min(1 + rng.below(3)) {
+        let spoil = left.swap_remove(rng.below(left.len()));
+        spoil(rng, plan);
+    }
 }
 
 /// Another channel's number, which the signers sign or not.
@@ -50,14 +53,17 @@ fn numbers(rng: &mut Rng, plan: &mut Plan) {
     }
 }
 
-/// A wrong type in a key, equal keys, or any other bit.
+/// A wrong type in a key, equal keys, or keys that are equal but for one bit anywhere.
 fn keys(rng: &mut Rng, plan: &mut Plan) {
     let at = rng.below(2);
     match rng.below(4) {
         0 => plan.keys[0] = plan.keys[1],
         1 => plan.keys[at][3] = rng.pick(&[5, 7]),
         2 => plan.keys[at][7] = rng.pick(&[3, 5]),
-        _ => rng.flip_bit(&mut plan.keys[at]),
+        _ => {
+            plan.keys[0] = plan.keys[1];
+            rng.flip_bit(&mut plan.keys[at]);
+        }
     }
 }
 
@@ -66,16 +72,19 @@ fn delay(rng: &mut Rng, plan: &mut Plan) {
     plan.delay = rng.pick(&[1, 3_599, 3_600, 2_592_000, 2_592_001, u32::MAX]);
 }
 
-/// Another lock or secret.
+/// Another secret.
 fn string(rng: &mut Rng, plan: &mut Plan) {
     rng.flip_bit(&mut plan.string);
 }
 
-/// Somebody else signs, or each for the other.
+/// Each signs for the other, or somebody else for one, more often for the customer, whose signature
+/// is checked last.
 fn signer(rng: &mut Rng, plan: &mut Plan) {
-    match rng.below(3) {
+    let other = rng.below(Wallet::PARTIES);
+    match rng.below(4) {
         0 => plan.signers.swap(0, 1),
-        at => plan.signers[at - 1] = rng.below(Wallet::PARTIES),
+        1 => plan.signers[0] = other,
+        _ => plan.signers[1] = other,
     }
 }
 

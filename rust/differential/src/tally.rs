@@ -1,4 +1,5 @@
 //! What was compared, and which refusals came up.
+use crate::kinds::KINDS;
 use std::collections::BTreeMap;
 use std::fmt;
 
@@ -33,6 +34,25 @@ const MOVES: [(u8, u8, u8); 12] = [
     (0x0a, 5, 6),
 ];
 
+/// Every two of the checks 5 to 10 that can say no to one command.
+const MEETINGS: [(u8, u8, u8); 15] = [
+    (0x02, 5, 6),
+    (0x02, 5, 7),
+    (0x02, 5, 8),
+    (0x02, 6, 7),
+    (0x02, 6, 8),
+    (0x02, 7, 8),
+    (0x03, 5, 8),
+    (0x04, 5, 8),
+    (0x06, 5, 8),
+    (0x07, 5, 8),
+    (0x07, 8, 9),
+    (0x09, 5, 9),
+    (0x09, 5, 10),
+    (0x09, 9, 10),
+    (0x0a, 5, 9),
+];
+
 /// Numbers of the answers.
 const REFUSALS: [u8; 14] = [0, 1, 2, 3, 4, 5, 6, 7, 8, 9, 10, 11, 12, 99];
 
@@ -42,6 +62,7 @@ pub struct Tally {
     compared: BTreeMap<&'static str, u64>,
     answers: BTreeMap<(u8, u8), u64>,
     moves: BTreeMap<(u8, u8, u8), u64>,
+    meetings: BTreeMap<(u8, u8, u8), u64>,
 }
 
 impl Tally {
@@ -63,23 +84,38 @@ impl Tally {
         *self.moves.entry(place).or_default() += 1;
     }
 
+    /// Counts a refused command by the first two of the checks 3 to 10 that say no to it.
+    pub fn refused(&mut self, command: &[u8], noes: &[u8]) {
+        if let [first, second, ..] = noes {
+            let place = (row(command), *first, *second);
+            *self.meetings.entry(place).or_default() += 1;
+        }
+    }
+
     /// What could have come up and never did.
     pub fn missing(&self) -> Vec<String> {
         let answers = REACHABLE
             .iter()
-            .flat_map(|(row, all)| all.iter().map(|one| (*row, *one)));
-        let never = answers.filter(|place| !self.answers.contains_key(place));
-        let mut missing: Vec<String> = never
-            .map(|(row, refusal)| format!("{row:02X} answered {refusal}"))
-            .collect();
-        let never = MOVES.iter().filter(|place| !self.moves.contains_key(place));
-        missing.extend(
-            never.map(|(row, before, after)| format!("{row:02X} from status {before} to {after}")),
-        );
-        missing
+            .flat_map(|(row, all)| all.iter().map(|one| (*row, *one)))
+            .filter(|place| !self.answers.contains_key(place))
+            .map(|(row, refusal)| format!("{row:02X} answered {refusal}"));
+        let moves = MOVES
+            .iter()
+            .filter(|place| !self.moves.contains_key(place))
+            .map(|(row, before, after)| format!("{row:02X} from status {before} to {after}"));
+        let meetings = MEETINGS
+            .iter()
+            .filter(|place| !self.meetings.contains_key(place))
+            .map(|(row, first, second)| format!("{row:02X} failing {first} and {second}"));
+        let kinds = KINDS
+            .iter()
+            .filter(|kind| !self.compared.contains_key(*kind))
+            .map(|kind| kind.to_string());
+        let all = answers.chain(moves).chain(meetings).chain(kinds);
+        all.collect()
     }
 
-    /// Answers by first byte, and moves.
+    /// Answers by first byte, moves and meetings.
     fn table(&self, f: &mut fmt::Formatter<'_>) -> fmt::Result {
         write!(f, "answers:")?;
         for refusal in REFUSALS {
@@ -97,6 +133,13 @@ impl Tally {
         writeln!(f, "\naccepted, with the status before and after:")?;
         for ((row, before, after), count) in &self.moves {
             writeln!(f, "{count:>12} {row:02X} {before} > {after}")?;
+        }
+        writeln!(
+            f,
+            "refused, with the first two checks of 3 to 10 that say no:"
+        )?;
+        for ((row, first, second), count) in &self.meetings {
+            writeln!(f, "{count:>12} {row:02X} {first} {second}")?;
         }
         Ok(())
     }

@@ -33,10 +33,10 @@ impl Wallet {
         &self.secrets
     }
 
-    /// The secret that opens a lock.
-    pub fn secret_of(&self, lock: &Digest) -> Option<Digest> {
-        let opens = |secret: &&Digest| digest(*secret) == *lock;
-        self.secrets.iter().find(opens).copied()
+    /// The secret whose hash is nearest to a lock: the one that opens it, where there is one.
+    pub fn secret_near(&self, lock: &Digest) -> Digest {
+        let bits = |secret: &&Digest| bits_apart(&digest(*secret), lock);
+        *self.secrets.iter().min_by_key(bits).unwrap()
     }
 
     /// A party's signature of a message, always the same one; the message chooses the leaf.
@@ -52,6 +52,11 @@ impl Wallet {
             signer.sign(leaf, &c, message)
         })
     }
+}
+
+/// How many bits differ in two strings of one length.
+pub fn bits_apart(a: &[u8], b: &[u8]) -> u32 {
+    a.iter().zip(b).map(|(a, b)| (a ^ b).count_ones()).sum()
 }
 
 impl Default for Wallet {

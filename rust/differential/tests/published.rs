@@ -2,6 +2,10 @@
 use finaruvom::{Answer, Book, Line, Verdict};
 use std::collections::HashMap;
 use std::fmt::Write;
+use stored::journals;
+
+#[path = "../../oracle/src/vectors/stored.rs"]
+mod stored;
 
 /// The commands of a journal, up to the first one that is unknown or cut.
 fn commands(journal: &[u8]) -> Vec<&[u8]> {
@@ -34,25 +38,10 @@ fn compare(input: &[u8], text: &str) {
     assert!(lines.next().unwrap().starts_with("end "));
 }
 
-const JOURNALS: [(&[u8], &str); 3] = [
-    (
-        include_bytes!("../../../tests/journals/journal-1.bin"),
-        include_str!("../../../tests/journals/journal-1.txt"),
-    ),
-    (
-        include_bytes!("../../../tests/journals/journal-2.bin"),
-        include_str!("../../../tests/journals/journal-2.txt"),
-    ),
-    (
-        include_bytes!("../../../tests/journals/journal-3.bin"),
-        include_str!("../../../tests/journals/journal-3.txt"),
-    ),
-];
-
 #[test]
 fn journals_by_command() {
-    for (input, text) in JOURNALS {
-        compare(input, text);
+    for (input, text) in journals() {
+        compare(&input, &text);
     }
 }
 
@@ -84,8 +73,8 @@ fn statement(input: &[u8]) -> String {
 
 #[test]
 fn journals_by_run() {
-    for (input, text) in JOURNALS {
-        assert_eq!(statement(input), text);
+    for (input, text) in journals() {
+        assert_eq!(statement(&input), text);
     }
 }
 
@@ -100,6 +89,7 @@ fn bytes(hex: &str) -> Vec<u8> {
 fn signatures() {
     let text = include_str!("../../oracle/vectors/lms_h10_w8.txt");
     let lines = text.lines().filter(|line| line.contains("verdict="));
+    assert_eq!(lines.clone().count(), 18);
     for line in lines {
         let words = line.split(' ').filter_map(|word| word.split_once('='));
         let part: HashMap<&str, &str> = words.collect();

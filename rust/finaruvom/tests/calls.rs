@@ -1,5 +1,5 @@
 //! What the wrapper makes of the library's numbers.
-use finaruvom::{check, hash, Book, Refusal, Verdict};
+use finaruvom::{check, hash, Answer, Book, Refusal, Verdict};
 
 #[test]
 fn hashes() {
@@ -32,14 +32,30 @@ fn openings() {
 }
 
 #[test]
-fn refusals() {
-    let mut book = Book::open(&[7; 16]).unwrap();
-    assert_eq!(book.apply(&[]).refused(), Some(Refusal::UNKNOWN));
-    assert_eq!(book.apply(&[0x0a, 0, 64]).refused(), Some(Refusal::CHANNEL));
-    let mut raw = *book.as_raw();
-    raw.mark ^= 1;
-    let answer = Book::from_raw(raw).apply(&[]);
-    assert_eq!(answer.refused(), Some(Refusal::UNSOUND));
-    assert_eq!(Refusal::UNSOUND.number(), 99);
-    assert_eq!(Refusal::UNSOUND.to_string(), "refusal 99");
+fn refusals_by_number() {
+    let numbers = [
+        (Refusal::UNKNOWN, 1),
+        (Refusal::LENGTH, 2),
+        (Refusal::TIME, 3),
+        (Refusal::CHANNEL, 4),
+        (Refusal::STATUS, 5),
+        (Refusal::KEYS, 6),
+        (Refusal::DELAY, 7),
+        (Refusal::CENTS, 8),
+        (Refusal::DEADLINE, 9),
+        (Refusal::SECRET, 10),
+        (Refusal::MERCHANT, 11),
+        (Refusal::CUSTOMER, 12),
+        (Refusal::UNSOUND, 99),
+    ];
+    for (refusal, number) in numbers {
+        assert_eq!(refusal.number(), number);
+        assert_eq!(refusal.to_string(), format!("refusal {number}"));
+        let answer = Answer {
+            refusal: number,
+            ..Answer::default()
+        };
+        assert_eq!(answer.refused(), Some(refusal));
+    }
+    assert_eq!(Answer::default().refused(), None);
 }

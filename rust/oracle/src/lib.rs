@@ -19,7 +19,7 @@ pub use book::{Book, Channel, Party, CHANNELS, LARGEST, LONGEST_DELAY, SHORTEST_
 pub use check::{check, Verdict, SIGNATURE, TYPES};
 pub use command::length;
 pub use journal::{run, statement, Ran};
-pub use machine::{apply, Answer};
+pub use machine::{apply, noes, Answer};
 pub use one_time::Place;
 pub use reading::{due, read, Reading};
 pub use sha256::{digest, hash, Digest};

@@ -2,7 +2,7 @@
 use crate::book::{Book, Channel, Party};
 use crate::check::check;
 use crate::command::{Command, Order};
-use crate::rules::{first_no, named};
+use crate::rules::{self, named};
 
 /// What a delay of 0 stands for.
 const DEFAULT_DELAY: u32 = 86_400;
@@ -47,7 +47,7 @@ fn accepted<'a>(book: &Book, bytes: &'a [u8], steps: &mut u32) -> Result<Command
         return Err(99);
     }
     let command = Command::parse(bytes)?;
-    if let Some(refusal) = first_no(book, &command) {
+    if let Some(refusal) = rules::noes(book, &command).next() {
         return Err(refusal);
     }
     if let Some(channel) = named(book, &command) {
@@ -67,6 +67,14 @@ fn accepted<'a>(book: &Book, bytes: &'a [u8], steps: &mut u32) -> Result<Command
         }
     }
     Ok(command)
+}
+
+/// The checks 3 to 10 that say no to a command of whole length on a sound book, in their order.
+pub fn noes(book: &Book, bytes: &[u8]) -> Vec<u8> {
+    match Command::parse(bytes) {
+        Ok(command) if book.sound() => rules::noes(book, &command).collect(),
+        _ => Vec::new(),
+    }
 }
 
 /// Changes the book and gives what is paid to customer and merchant.

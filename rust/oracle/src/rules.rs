@@ -18,9 +18,11 @@ const CHECKS: [(u8, Check); 8] = [
     (10, secret_opens),
 ];
 
-/// The refusal of the first check that says no.
-pub fn first_no(book: &Book, command: &Command) -> Option<u8> {
-    let no = CHECKS.iter().find(|(_, check)| !check(book, command));
+/// The refusals of the checks that say no, in their order.
+pub fn noes<'a>(book: &'a Book, command: &'a Command<'a>) -> impl Iterator<Item = u8> + use<'a> {
+    let no = CHECKS
+        .iter()
+        .filter(move |(_, check)| !check(book, command));
     no.map(|(refusal, _)| *refusal)
 }
 

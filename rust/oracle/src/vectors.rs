@@ -2,4 +2,5 @@
 mod journals;
 mod lms;
 mod sha256;
+mod stored;
 mod text;

@@ -6,7 +6,7 @@ use super::strings::string;
 use super::World;
 use crate::arbitrary;
 use crate::fence::Fenced;
-use crate::pair::{hex, Outcome};
+use crate::pair::{hex, same, Outcome};
 use crate::rng::Rng;
 use finaruvom::raw;
 use std::mem::size_of;
@@ -58,13 +58,19 @@ fn kept(call: &str, written: &[&Fenced], read: &[&Fenced]) -> Outcome {
     }
 }
 
+/// Whether the call answered 2 for a wrong length, and 0 for a right one.
+fn refused_with_2(call: &str, refusal: u8, wrong: bool) -> Outcome {
+    same(call, &refusal, &(2 * u8::from(wrong)))
+}
+
 fn hash(rng: &mut Rng, _: &mut Fenced) -> Outcome {
     let bytes = rng.bytes_of(&[0, 1, 55, 56, 64, 65, 1_000, 65_536, 65_537]);
     let mut bytes = lend(rng, bytes);
     let mut digest = lend(rng, vec![0; 32]);
     // SAFETY: the bytes are readable and the digest is writable.
-    unsafe { raw::finaruvom_hash(bytes.pointer(), bytes.length(), digest.pointer()) };
-    kept("hash", &[&digest], &[&bytes])
+    let refusal = unsafe { raw::finaruvom_hash(bytes.pointer(), bytes.length(), digest.pointer()) };
+    kept("hash", &[&digest], &[&bytes])?;
+    refused_with_2("hash", refusal, bytes.length() > 65_536)
 }
 
 fn check(rng: &mut Rng, _: &mut Fenced) -> Outcome {
@@ -83,7 +89,7 @@ fn check(rng: &mut Rng, _: &mut Fenced) -> Outcome {
     let mut verdict = lend(rng, vec![0xff]);
     let mut steps = Fenced::new(vec![0xff; 4], 4 * rng.below(2));
     // SAFETY: the three buffers are readable, and verdict and steps are writable.
-    unsafe {
+    let refusal = unsafe {
         raw::finaruvom_check(
             key.pointer(),
             key.length(),
@@ -96,6 +102,7 @@ fn check(rng: &mut Rng, _: &mut Fenced) -> Outcome {
         )
     };
     kept("check", &[&verdict, &steps], &[&key, &message, &signature])?;
+    refused_with_2("check", refusal, message.length() > 1_024)?;
     match verdict.bytes() {
         [0 | 1] => Ok(()),
         other => Err(format!("a verdict of {other:?}")),
@@ -106,8 +113,9 @@ fn open(rng: &mut Rng, book: &mut Fenced) -> Outcome {
     let id = rng.bytes_of(&[0, 1, 15, 17, 16]);
     let mut id = lend(rng, id);
     // SAFETY: the book is writable and the id readable.
-    unsafe { raw::finaruvom_open(book.pointer(), id.pointer(), id.length()) };
-    kept("open", &[book], &[&id])
+    let refusal = unsafe { raw::finaruvom_open(book.pointer(), id.pointer(), id.length()) };
+    kept("open", &[book], &[&id])?;
+    refused_with_2("open", refusal, id.length() != 16)
 }
 
 fn apply(rng: &mut Rng, book: &mut Fenced) -> Outcome {

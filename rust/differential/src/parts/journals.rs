@@ -1,5 +1,6 @@
 //! Lists of commands from a fresh book, made by somebody who knows its state.
 use super::World;
+use crate::kinds::{kind, FILED};
 use crate::maker::Maker;
 use crate::pair::{Outcome, Pair};
 use crate::rng::Rng;
@@ -19,6 +20,9 @@ pub fn case(rng: &mut Rng, world: &mut World) -> Outcome {
             .apply(&command, &mut world.tally)
             .map_err(|text| format!("command {number}, {text}"))?;
         pair.read(&mut world.tally)?;
+        if refusal == 10 && kind(&pair.oracle, &command, refusal).is_some() {
+            world.tally.compared(FILED);
+        }
         if refusal == 0 {
             maker.remember(command);
         }

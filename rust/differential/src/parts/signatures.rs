@@ -60,13 +60,14 @@ fn lengths(good: &Signed, rng: &mut Rng, tally: &mut Tally) -> Outcome {
     Ok(())
 }
 
-/// A turned bit anywhere, another leaf or another type.
+/// A turned bit anywhere or in the root's last byte, another leaf or another type.
 fn damaged(rng: &mut Rng, good: &Signed) -> Signed {
     let mut bad = good.clone();
     let leaf = rng.pick(&[0, 1, 2, 511, 1_022, 1_023, 1_024, 1_025, 1 << 24, u32::MAX]);
     let kind = rng.pick(&[3, 4, 5, 6, 7, 0x0400, 0x0600_0000]);
     match rng.below(10) {
-        0..=1 => rng.flip_bit(&mut bad.key),
+        0 => rng.flip_bit(&mut bad.key),
+        1 => rng.flip_bit(&mut bad.key[55..]),
         2 => rng.flip_bit(&mut bad.message),
         3..=4 => rng.flip_bit(&mut bad.signature),
         5 => bad.signature[..4].copy_from_slice(&leaf.to_be_bytes()),

@@ -1,24 +1,11 @@
 //! Journals and what the statement program prints of them.
+use super::stored::journals;
 use crate::journal::statement;
 
 #[test]
 fn published() {
-    let journals: [(&[u8], &str); 3] = [
-        (
-            include_bytes!("../../../../tests/journals/journal-1.bin"),
-            include_str!("../../../../tests/journals/journal-1.txt"),
-        ),
-        (
-            include_bytes!("../../../../tests/journals/journal-2.bin"),
-            include_str!("../../../../tests/journals/journal-2.txt"),
-        ),
-        (
-            include_bytes!("../../../../tests/journals/journal-3.bin"),
-            include_str!("../../../../tests/journals/journal-3.txt"),
-        ),
-    ];
-    for (input, expected) in journals {
-        assert_eq!(statement(input), expected);
+    for (input, expected) in journals() {
+        assert_eq!(statement(&input), expected);
     }
 }
 

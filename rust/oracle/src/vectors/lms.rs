@@ -39,6 +39,7 @@ fn key_and_signatures() {
     let signer = Signer::new(array(field(&lines, "seed")), array(field(&lines, "I")));
     assert_eq!(signer.key(), array(field(&lines, "key")));
     let good = lines.iter().filter(|words| words.contains(&"verdict=yes"));
+    assert_eq!(good.clone().count(), 4);
     for words in good {
         let signature = bytes(value(words, "signature"));
         let leaf = u32::from_be_bytes(signature[..4].try_into().unwrap());

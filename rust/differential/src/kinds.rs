@@ -1,0 +1,59 @@
+//! Commands that come up by design alone.
+use crate::wallet::bits_apart;
+use oracle::{digest, Book, TYPES};
+
+/// The kinds that every run must meet.
+pub const KINDS: [&str; 7] = [
+    EQUAL,
+    IDENTIFIERS,
+    ROOTS,
+    LOCK_START,
+    LOCK_MIDDLE,
+    LOCK_END,
+    FILED,
+];
+
+const EQUAL: &str = "02 refused for equal keys";
+const IDENTIFIERS: &str = "02 accepted with identifiers one bit apart";
+const ROOTS: &str = "02 accepted with roots one bit apart";
+const LOCK_START: &str = "09 refused for a bit in the lock's first byte";
+const LOCK_MIDDLE: &str = "09 refused for a bit between";
+const LOCK_END: &str = "09 refused for a bit in the lock's last byte";
+
+/// A lock that a 07 of the same journal filed.
+pub const FILED: &str = "09 refused for a bit of the lock in its 07";
+
+/// The kind of a command with this answer, if it is one of them.
+pub fn kind(book: &Book, command: &[u8], refusal: u8) -> Option<&'static str> {
+    match (command, refusal) {
+        ([0x02, _, _, operands @ ..], 0 | 6) => keys(&operands[..56], &operands[56..112]),
+        ([0x09, _, low, operands @ ..], 10) => {
+            let lock = &book.channels[usize::from(*low)].lock;
+            secret(&operands[..32], lock)
+        }
+        _ => None,
+    }
+}
+
+/// Keys of the right types that are equal, or but for one bit.
+fn keys(customer: &[u8], merchant: &[u8]) -> Option<&'static str> {
+    let apart = |from: usize, to: usize| bits_apart(&customer[from..to], &merchant[from..to]);
+    let typed = [customer, merchant].map(|key| key[..8] == TYPES);
+    match (typed, apart(8, 24), apart(24, 56)) {
+        ([true, true], 0, 0) => Some(EQUAL),
+        ([true, true], 1, 0) => Some(IDENTIFIERS),
+        ([true, true], 0, 1) => Some(ROOTS),
+        _ => None,
+    }
+}
+
+/// A secret whose hash is the lock but for one bit.
+fn secret(secret: &[u8], lock: &[u8]) -> Option<&'static str> {
+    let hash = digest(secret);
+    match bits_apart(&hash, lock) {
+        1 if hash[0] != lock[0] => Some(LOCK_START),
+        1 if hash[31] != lock[31] => Some(LOCK_END),
+        1 => Some(LOCK_MIDDLE),
+        _ => None,
+    }
+}
