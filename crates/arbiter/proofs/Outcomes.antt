@@ -1,10 +1,10 @@
 -- What the forms by value return: a struct of a book and an answer, or a result alone.
 use mathlib.Core.Path.{ap}
 use mathlib.Core.List.{[], _∷_}
-use mir.Syntax.{w8, tyInt}
+use mir.Syntax.{w32, tyInt}
 use mir.Val.{vint}
 use denote.Plain.{uint-lawful, uint-makes}
-use denote.Builtin.{u8}
+use denote.Builtin.{u32}
 use denote.Steps.{only}
 use denote.Struct.Laws as LL
 use denote.Enum.Laws as EL
@@ -36,19 +36,19 @@ stepped = record {
   makes = λ 𝓤 H A W. LL.makes N.the-type N′.the-plain 𝓤 H A;
 }
 
-abbrev pub opened : Outcome O.the-row u8
+abbrev pub opened : Outcome O.the-row u32
 opened = record {
   book = λ r. r .book;
   answer = λ r. r .refusal;
   name = O.struct .name;
-  ty = tyInt w8;
-  val = vint w8;
+  ty = tyInt w32;
+  val = vint w32;
   spells = λ r w is. ap only (LL.tells O.the-type O′.the-laws r (w ∷ []) is);
   book-is = λ r w is. LL.owed O.the-type O′.the-laws r _ is .0;
   answer-is = λ r w is. LL.owed O.the-type O′.the-laws r _ is .1 .0;
   typed = λ 𝓤 H A W r w is. LL.lawful O.the-type O′.the-laws 𝓤 H A W .typed r _ is .0;
-  answer-typed = λ 𝓤 H A W x w is. uint-lawful 𝓤 H A W w8 .typed x _ is .0;
-  makes = λ 𝓤 H A W. uint-makes 𝓤 H A W w8;
+  answer-typed = λ 𝓤 H A W x w is. uint-lawful 𝓤 H A W w32 .typed x _ is .0;
+  makes = λ 𝓤 H A W. uint-makes 𝓤 H A W w32;
 }
 
 abbrev pub read : Returned R.the-row

@@ -13,7 +13,7 @@ ghost use Rattle.machine.specs.Due.{valueOf, due};
 ghost use Rattle.machine.specs.Real.{realStep};
 
 // Makes any lent book fresh, with the id, and answers 0; an id that is not 16 bytes long gives 2 and keeps every value.
-pub fn open(book: &mut Book, id: &[u8]) -> u8
+pub fn open(book: &mut Book, id: &[u8]) -> u32
     ensures { λ r. ⌜ (r ≡ opening (now (book .entry)) (now (id .entry)) .refusal)
         × (now (book .exit) ≡ opening (now (book .entry)) (now (id .entry)) .book) ⌝ }
 {

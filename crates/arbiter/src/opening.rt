@@ -23,12 +23,12 @@ fn unused_channel() -> Channel
         deposit: Cents(0),
     };
     Channel {
-        status: 0,
         customer,
         merchant,
-        delay: 0,
         deadline: Seconds(0),
         kept: Cents(0),
+        delay: 0,
+        status: 0,
         lock: [0u8; 32],
     }
 }

@@ -20,7 +20,7 @@ pub fn unjudged() -> Judged
 }
 
 // One check more, and its number where it says no.
-pub fn tested(j: Judged, refusal: u8, ok: bool) -> Judged
+pub fn tested(j: Judged, refusal: u32, ok: bool) -> Judged
     ensures { λ r. ⌜ r ≡ ask j (test refusal ok) ⌝ }
     ensures { λ r. ⌜ r .steps ≡ j .steps ⌝ }
 {
@@ -42,17 +42,17 @@ pub fn answered(j: Judged, customer: Cents, merchant: Cents) -> Answer
 {
     if j.refusal != 0 {
         return Answer {
-            refusal: j.refusal,
             customer: Cents(0),
             merchant: Cents(0),
             steps: j.steps,
+            refusal: j.refusal,
         };
     }
     Answer {
-        refusal: j.refusal,
         customer,
         merchant,
         steps: j.steps,
+        refusal: j.refusal,
     }
 }
 

@@ -26,7 +26,7 @@ fn signed_message(id: [u8; 16], command: &[u8], end: usize) -> [u8; 67]
 // Is the signature at `at` good for the key and the signed message, whose operands end at `end`?
 pub fn signature_tested(
     j: Judged,
-    refusal: u8,
+    refusal: u32,
     key: [u8; 56],
     id: [u8; 16],
     command: &[u8],

@@ -12,8 +12,8 @@ fn changed(channel: Channel, field: u8, value: u64) -> Channel {
     let cents = Cents(value);
     let time = Seconds(value);
     if field == 2 {
-        if value < 256 {
-            after.status = value as u8;
+        if value < 4294967296 {
+            after.status = value as u32;
         }
     }
     if field == 3 {

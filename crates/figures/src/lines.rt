@@ -16,16 +16,16 @@ fn number(n: u64) {
     io::print_decimal(STDOUT_FILENO, n);
 }
 
-pub fn print_opened(refusal: u8) {
+pub fn print_opened(refusal: u32) {
     text(b"open");
-    number(wide(refusal) as u64);
+    number(refusal as u64);
     text(b"\n");
 }
 
 // Refusal, paid to the customer, paid to the merchant, chain steps.
 pub fn print_answer(answer: Answer) {
     text(b"answer");
-    number(wide(answer.refusal) as u64);
+    number(answer.refusal as u64);
     number(answer.customer.0);
     number(answer.merchant.0);
     number(answer.steps as u64);
@@ -43,8 +43,8 @@ fn print_lock(lock: [u8; 32]) {
 // Refusal, status, total, held, deadline, the kept part and the lock.
 pub fn print_reading(reading: Reading) {
     text(b"reading");
-    number(wide(reading.refusal) as u64);
-    number(wide(reading.status) as u64);
+    number(reading.refusal as u64);
+    number(reading.status as u64);
     number(reading.total.0);
     number(reading.held.0);
     number(reading.deadline.0);

@@ -5,18 +5,49 @@ use arbiter::Found;
 use arbiter::Reading;
 use journal::Line;
 use journal::Ran;
+use machine::LAYOUT;
 ghost use mathlib.Core.Path.{_≡_};
 ghost use Rattle.sha256.specs.Answer.{hashAnswer};
 ghost use Rattle.lms.specs.Check.{checkOf};
-ghost use Rattle.machine.specs.Book.{opening, reading};
+ghost use Rattle.machine.specs.Book.{layout, opening, reading};
 ghost use Rattle.machine.specs.Due.{due};
 ghost use Rattle.machine.specs.Real.{realStep};
 ghost use Rattle.journal.specs.Runs.{runOf, ranOf};
 ghost use Rattle.finaruvom.specs.Fields.{fieldsOf};
+ghost use Rattle.finaruvom.specs.Release.{released};
+
+// The library's version, and the layout of its books.
+#[repr(C)]
+pub struct Version {
+    pub major: u32,
+    pub minor: u32,
+    pub patch: u32,
+    pub layout: u32,
+}
+
+#[no_mangle]
+pub extern "C" fn finaruvom_version() -> Version
+    ensures { λ r. ⌜ r ≡ released ⌝ }
+{
+    Version {
+        major: 0,
+        minor: 9,
+        patch: 0,
+        layout: LAYOUT,
+    }
+}
+
+// Its name carries the layout, so that a program with another one's header does not link.
+#[no_mangle]
+pub extern "C" fn finaruvom_layout_2() -> u32
+    ensures { λ r. ⌜ r ≡ layout ⌝ }
+{
+    LAYOUT
+}
 
 // The SHA-256 digest of at most 65,536 bytes, written to digest, and 0; of more, zeros and 2.
 #[no_mangle]
-pub extern "C" fn finaruvom_hash(bytes: &[u8], digest: &mut [u8; 32]) -> u8
+pub extern "C" fn finaruvom_hash(bytes: &[u8], digest: &mut [u8; 32]) -> u32
     ensures refusal { λ r. ⌜ r ≡ hashAnswer (now (bytes .entry)) .refusal ⌝ }
     ensures digest { λ r. ⌜ now (digest .exit) ≡ hashAnswer (now (bytes .entry)) .digest ⌝ }
 {
@@ -34,7 +65,7 @@ pub extern "C" fn finaruvom_check(
     signature: &[u8],
     verdict: &mut bool,
     steps: &mut u32,
-) -> u8
+) -> u32
     ensures refusal { λ r. ⌜ r ≡ checkOf (now (key .entry)) (now (message .entry)) (now (signature .entry)) .refusal ⌝ }
     ensures verdict { λ r. ⌜ now (verdict .exit) ≡ checkOf (now (key .entry)) (now (message .entry)) (now (signature .entry)) .verdict ⌝ }
     ensures steps { λ r. ⌜ now (steps .exit) ≡ checkOf (now (key .entry)) (now (message .entry)) (now (signature .entry)) .steps ⌝ }
@@ -47,7 +78,7 @@ pub extern "C" fn finaruvom_check(
 
 // Makes any lent book fresh, with the id, and answers 0; an id that is not 16 bytes long gives 2 and keeps every value.
 #[no_mangle]
-pub extern "C" fn finaruvom_open(book: &mut Book, id: &[u8]) -> u8
+pub extern "C" fn finaruvom_open(book: &mut Book, id: &[u8]) -> u32
     ensures { λ r. ⌜ (r ≡ opening (now (book .entry)) (now (id .entry)) .refusal)
         × (now (book .exit) ≡ opening (now (book .entry)) (now (id .entry)) .book) ⌝ }
 {

@@ -15,7 +15,7 @@ ghost use Rattle.machine.specs.Machine.{ruling, verdict};
 ghost use Rattle.machine.specs.Real.{lmsVerdict};
 
 // Open where the merchant owes nothing.
-fn status_funded(merchant: Cents) -> u8
+fn status_funded(merchant: Cents) -> u32
     ensures { λ r. ⌜ r ≡ cond (eqb (merchant .0) 0) 3 2 ⌝ }
 {
     if merchant.0 == 0 { 3 } else { 2 }

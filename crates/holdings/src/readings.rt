@@ -50,27 +50,27 @@ pub fn read_channel(ch: Channel) -> Reading
     let kept = cents_if(ch.status == 5, ch.kept);
     let lock = lock_if(ch.status == 5, stored);
     Reading {
-        refusal: 0,
-        status: ch.status,
         total,
         held,
         deadline,
         kept,
+        refusal: 0,
+        status: ch.status,
         lock,
     }
 }
 
 // A refused reading: zeros.
-pub fn unread(refusal: u8) -> Reading
+pub fn unread(refusal: u32) -> Reading
     ensures { λ r. ⌜ r ≡ noReading refusal ⌝ }
 {
     Reading {
-        refusal,
-        status: 0,
         total: Cents(0),
         held: Cents(0),
         deadline: Seconds(0),
         kept: Cents(0),
+        refusal,
+        status: 0,
         lock: [0u8; 32],
     }
 }

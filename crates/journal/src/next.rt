@@ -8,7 +8,7 @@ ghost use Rattle.journal.specs.Runs.{nextOf, aheadOf};
 // A command that ends at `end`, where `goes`, or else the cause to stop.
 pub struct Ahead {
     pub goes: bool,
-    pub cause: u8,
+    pub cause: u64,
     pub end: usize,
 }
 

@@ -12,7 +12,7 @@ ghost use Rattle.journal.specs.Runs.{runOf, ranOf};
 pub struct Ran {
     pub lines: usize,
     pub used: usize,
-    pub cause: u8,
+    pub cause: u64,
 }
 
 // The commands in turn on the lent book, a line for each; later lines keep their content.

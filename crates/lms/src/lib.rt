@@ -26,7 +26,7 @@ use wire::u32_at;
 
 // What `check` answers: the refusal, or 0; whether the signature is good; how many chain steps were made.
 pub struct Checked {
-    pub refusal: u8,
+    pub refusal: u32,
     pub verdict: bool,
     pub steps: u32,
 }

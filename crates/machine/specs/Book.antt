@@ -32,9 +32,13 @@ shortest = 3600
 abbrev pub longest : ℕ
 longest = 2592000
 
--- The mark that every opening writes: "arbiter!" in bytes.
+-- The number of the book's layout: a landing that changes the book changes it.
+abbrev pub layout : ℕ
+layout = 2
+
+-- The mark that every opening writes: "arbiter" in bytes, then the layout.
 abbrev pub theMark : ℕ
-theMark = 0x6172_6269_7465_7221
+theMark = 0x6172_6269_7465_7200 + layout
 
 -- ---- a channel
 
@@ -79,12 +83,12 @@ sound b = eqb (b .mark) theMark && leb (b .clock .0) limit && all soundChannel (
 -- What stands past the end of the channels.
 abbrev pub noChannel : Channel
 noChannel = record {
-  status = 0;
   customer = party [] 0;
   merchant = party [] 0;
-  delay = 0;
   deadline = seconds 0;
   kept = cents 0;
+  delay = 0;
+  status = 0;
   lock = [];
 }
 
@@ -101,12 +105,12 @@ withClock b t = record { mark = b .mark; id = b .id; clock = seconds t; channels
 
 abbrev pub unused : Channel
 unused = record {
-  status = 0;
   customer = party (replicate 56 0) 0;
   merchant = party (replicate 56 0) 0;
-  delay = 0;
   deadline = seconds 0;
   kept = cents 0;
+  delay = 0;
+  status = 0;
   lock = replicate 32 0;
 }
 
@@ -123,16 +127,16 @@ opening lent id = cond (eqb (length id) 16) (record { book = fresh id; refusal =
 -- ---- a reading: the deadline is 0 outside 4 and 5, the closing's customer part and lock zeros outside 5
 
 abbrev pub noReading : ℕ → Reading
-noReading r = record { refusal = r; status = 0; total = cents 0; held = cents 0; deadline = seconds 0; kept = cents 0; lock = replicate 32 0 }
+noReading r = record { total = cents 0; held = cents 0; deadline = seconds 0; kept = cents 0; refusal = r; status = 0; lock = replicate 32 0 }
 
 unfoldable pub readChannel : Channel → Reading
 readChannel ch = record {
-  refusal = 0;
-  status = ch .status;
   total = cents (total ch);
   held = cents (held ch);
   deadline = cond (closing ch) (ch .deadline) (seconds 0);
   kept = cond (eqb (ch .status) 5) (ch .kept) (cents 0);
+  refusal = 0;
+  status = ch .status;
   lock = cond (eqb (ch .status) 5) (ch .lock) (replicate 32 0);
 }
 

@@ -20,10 +20,10 @@ use Rattle.machine.specs.declared.answers.Stepped.{Stepped}
 -- A refused command pays 0 and 0, and counts the steps of the signature checks made.
 unfoldable pub answer : Judged → Cents → Cents → Answer
 answer j customer merchant = record {
-  refusal = j .refusal;
   customer = cond (passed j) customer (cents 0);
   merchant = cond (passed j) merchant (cents 0);
   steps = j .steps;
+  refusal = j .refusal;
 }
 
 -- A plan on one channel: a refused command changes nothing.

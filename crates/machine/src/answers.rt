@@ -7,15 +7,15 @@ use crate::units::Seconds;
 // What a command answers: the refusal, or 0; what it paid to each side; the chain steps.
 #[repr(C)]
 pub struct Answer {
-    pub refusal: u8,
     pub customer: Cents,
     pub merchant: Cents,
     pub steps: u32,
+    pub refusal: u32,
 }
 
 // What the checks made so far come to.
 pub struct Judged {
-    pub refusal: u8,
+    pub refusal: u32,
     pub steps: u32,
 }
 
@@ -34,18 +34,18 @@ pub struct Stepped {
 // What an opening makes of the lent book, and the refusal, or 0.
 pub struct Opened {
     pub book: Book,
-    pub refusal: u8,
+    pub refusal: u32,
 }
 
 // What a reading of one channel gives.
 #[repr(C)]
 pub struct Reading {
-    pub refusal: u8,
-    pub status: u8,
     pub total: Cents,
     pub held: Cents,
     pub deadline: Seconds,
     pub kept: Cents,
+    pub refusal: u32,
+    pub status: u32,
     pub lock: [u8; 32],
 }
 

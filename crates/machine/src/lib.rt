@@ -12,6 +12,7 @@ pub use answers::Reading;
 pub use answers::Ruled;
 pub use answers::Soonest;
 pub use answers::Stepped;
+pub use limits::LAYOUT;
 pub use limits::LIMIT;
 pub use limits::LONGEST;
 pub use limits::MARK;

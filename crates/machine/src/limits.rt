@@ -1,7 +1,10 @@
 // The limits of document 01, and the mark.
 
-// The mark that every opening writes: "arbiter!" in bytes.
-pub const MARK: u64 = 0x6172626974657221;
+// The number of the book's layout: a landing that changes the book changes it.
+pub const LAYOUT: u32 = 2;
+
+// The mark that every opening writes: "arbiter" in bytes, then the layout.
+pub const MARK: u64 = 0x6172626974657200 + LAYOUT as u64;
 
 // The largest clock and the largest total, 2^63 - 1.
 pub const LIMIT: u64 = 9223372036854775807;

@@ -12,12 +12,12 @@ pub struct Party {
 // The customer is document 01's café, the merchant its bakery. A customer's closing keeps its part and the lock here.
 #[repr(C)]
 pub struct Channel {
-    pub status: u8,
     pub customer: Party,
     pub merchant: Party,
-    pub delay: u32,
     pub deadline: Seconds,
     pub kept: Cents,
+    pub delay: u32,
+    pub status: u32,
     pub lock: [u8; 32],
 }
 

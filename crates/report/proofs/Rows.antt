@@ -36,13 +36,13 @@ unfolding row
 none-left ns i h = rw (drop-of-length-le ns h)
 
 -- The last line: the word and its numbers.
-pub end-put : (d e out : List ℕ) (at used cause w r : ℕ) → e ≡ paste d at endWord 4 → w ≡ cause
-    → out ≡ pasted e (at + 4) (row (used ∷ w ∷ [])) → r ≡ at + 4 + length (row (used ∷ w ∷ [])) → at + 4 ≤ length d
+pub end-put : (d e out : List ℕ) (at used cause r : ℕ) → e ≡ paste d at endWord 4
+    → out ≡ pasted e (at + 4) (row (used ∷ cause ∷ [])) → r ≡ at + 4 + length (row (used ∷ cause ∷ [])) → at + 4 ≤ length d
     → (out ≡ pasted d at (endLine used cause)) × (r ≡ at + length (endLine used cause))
 unfolding endLine pasted
-end-put d e out at used cause w r p q o l h =
+end-put d e out at used cause r p o l h =
     let n : length (endLine used cause) ≡ 4 + length (row (used ∷ cause ∷ [])) = length-append endWord (row (used ∷ cause ∷ [])) in
-    (o ∙ rw (p, q) (pasted-more d at endWord (row (used ∷ cause ∷ [])) h), (rw q at l) ∙ omega (arith, n))
+    (o ∙ rw p (pasted-more d at endWord (row (used ∷ cause ∷ [])) h), l ∙ omega (arith, n))
 
 -- ---- lines
 

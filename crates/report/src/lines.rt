@@ -2,7 +2,6 @@
 use crate::numbers::put_row;
 use journal::Line;
 use wire::copy_into;
-use wire::wide;
 ghost use mathlib.Core.Path.{_≡_};
 ghost use Prim.Native.Nat.{_+_, _*_, _^_, _<_, _≤_};
 ghost use lib.ListN.{length, take};
@@ -18,7 +17,7 @@ fn put_line(out: &mut [u8], at: usize, number: usize, line: Line) -> usize
     let answer = line.answer;
     let numbers = [
         number as u64,
-        wide(answer.refusal) as u64,
+        answer.refusal as u64,
         answer.customer.0,
         answer.merchant.0,
         answer.steps as u64,
@@ -44,12 +43,12 @@ pub fn put_lines(out: &mut [u8], lines: [Line; 64], count: usize, number: usize)
 }
 
 // The last line: bytes used and cause.
-pub fn put_end(out: &mut [u8], at: usize, used: usize, cause: u8) -> usize
+pub fn put_end(out: &mut [u8], at: usize, used: usize, cause: u64) -> usize
     requires { ⌜ at + 46 ≤ length (now out) ⌝ }
     ensures { λ r. ⌜ (now (out .exit) ≡ pasted (now (out .entry)) at (endLine used cause))
         × (r ≡ at + length (endLine used cause)) × (r ≤ at + 46) ⌝ }
 {
     copy_into(b"end ", out, at);
-    let numbers = [used as u64, wide(cause) as u64];
+    let numbers = [used as u64, cause];
     put_row(out, at + 4, &numbers)
 }

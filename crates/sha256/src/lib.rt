@@ -11,7 +11,7 @@ pub use state::Sha256;
 
 // What `hash` answers: the refusal, or 0, and the digest.
 pub struct Hashed {
-    pub refusal: u8,
+    pub refusal: u32,
     pub digest: [u8; 32],
 }
 

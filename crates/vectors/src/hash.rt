@@ -5,7 +5,6 @@ use crate::print::part;
 use crate::print::print_digest;
 use libc::STDOUT_FILENO;
 use sha256::Sha256;
-use wire::wide;
 
 // Byte i of the long message is 7 * i + 3, modulo 256.
 fn long_message() -> [u8; 65537]
@@ -23,7 +22,7 @@ fn print_hash(bytes: &[u8]) {
     let answer = sha256::hash(bytes);
     let refusal = answer.refusal;
     let digest = answer.digest;
-    io::print_decimal(STDOUT_FILENO, wide(refusal) as u64);
+    io::print_decimal(STDOUT_FILENO, refusal as u64);
     io::write_all(STDOUT_FILENO, b" ");
     print_digest(digest);
 }

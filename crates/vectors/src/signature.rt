@@ -63,7 +63,7 @@ fn print_stages(key: &[u8], message: &[u8], signature: &[u8]) {
 // The refusal, the verdict and the steps of a check.
 fn print_check(key: &[u8], message: &[u8], signature: &[u8]) {
     let checked = lms::check(key, message, signature);
-    io::print_decimal(STDOUT_FILENO, wide(checked.refusal) as u64);
+    io::print_decimal(STDOUT_FILENO, checked.refusal as u64);
     if checked.verdict {
         io::write_all(STDOUT_FILENO, b" yes ");
     } else {

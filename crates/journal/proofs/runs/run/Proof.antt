@@ -186,7 +186,7 @@ module _ {M : Type 1} (𝓤 : URA M) (H : Heap 𝓤) (A : Atoms 𝓤) (W : Given
     n-fits : (z : St) → z .n < 2 ^ 64
     n-fits z = omega (arith, z .n-ok, room .0)
 
-    cause-fits : (r : Ahead) (w : Val) → Is X.the-row r (w ∷ []) → r .cause < 2 ^ 8
+    cause-fits : (r : Ahead) (w : Val) → Is X.the-row r (w ∷ []) → r .cause < 2 ^ 64
     cause-fits r w is = LL.owed X.the-type X′.the-laws r _ is .1 .0 .1
 
     end-fits : (r : Ahead) (w : Val) → Is X.the-row r (w ∷ []) → r .end < 2 ^ 64
@@ -233,10 +233,10 @@ module _ {M : Type 1} (𝓤 : URA M) (H : Heap 𝓤) (A : Atoms 𝓤) (W : Given
     abbrev ran : St → Ahead → Ran
     ran z r = record { lines = z .n; used = z .at; cause = r .cause }
 
-    ran-is : (z : St) (r : Ahead) → r .cause < 2 ^ 8 → Is R.the-row (ran z r) (LL.vals R.the-type R′.the-laws (ran z r))
+    ran-is : (z : St) (r : Ahead) → r .cause < 2 ^ 64 → Is R.the-row (ran z r) (LL.vals R.the-type R′.the-laws (ran z r))
     ran-is z r c = LL.owes R.the-type R′.the-laws (ran z r) ((refl, n-fits z), ((refl, at-fits z), ((refl, c), tt)))
 
-    exits : (z : St) (r : Ahead) → AheadIs z r → r .goes ≡ false → r .cause < 2 ^ 8 → ent 𝓤 (⋆ 𝓤 H A (Core z [])) (Post (LL.val R.the-type R′.the-laws (ran z r)))
+    exits : (z : St) (r : Ahead) → AheadIs z r → r .goes ≡ false → r .cause < 2 ^ 64 → ent 𝓤 (⋆ 𝓤 H A (Core z [])) (Post (LL.val R.the-type R′.the-laws (ran z r)))
     exits z r e c g =
         qed W (Core z []) ∵
         suffices ! _ (ends-at 𝓤 H A f.ended stayed (f.clauses 𝓤 H A at-mem run) W (((κ, (κ′, (κ″, tt))), (q, (q′, (q″, tt))), bounds, x, vals), tt) (LL.val R.the-type R′.the-laws (ran z r)) (ran z r) (z .book, (tt, (z .lines, tt))) (tt, (tt, (z .len, tt)))) $
@@ -278,11 +278,11 @@ module _ {M : Type 1} (𝓤 : URA M) (H : Heap 𝓤) (A : Atoms 𝓤) (W : Given
 
       module _ (l₀ l₁ l₂ l₃ l₄ l₅ l₆ l₇ l₈ l₉ l₁₀ l₁₁ l₁₂ l₁₃ l₁₄ l₁₅ : ℕ) where
         abbrev En : Env 𝓤 H
-        En = (R′.mir, l₀) ∷ (book-ty, l₁) ∷ (commands-ty, l₂) ∷ (lines-ty, l₃) ∷ (tyInt w64, l₄) ∷ (tyInt w64, l₅) ∷ (tyInt w8, l₆) ∷ (X′.mir, l₇) ∷ (T′.mir, l₈) ∷ (tyInt w8, l₉) ∷ (tyInt w64, l₁₀) ∷ (tyBool, l₁₁) ∷ (lent-book-ty, l₁₂) ∷ (tyUnit, l₁₃) ∷ (lent-line-ty, l₁₄) ∷ (lent-lines-ty, l₁₅) ∷ []
+        En = (R′.mir, l₀) ∷ (book-ty, l₁) ∷ (commands-ty, l₂) ∷ (lines-ty, l₃) ∷ (tyInt w64, l₄) ∷ (tyInt w64, l₅) ∷ (tyInt w64, l₆) ∷ (X′.mir, l₇) ∷ (T′.mir, l₈) ∷ (tyInt w64, l₉) ∷ (tyInt w64, l₁₀) ∷ (tyBool, l₁₁) ∷ (lent-book-ty, l₁₂) ∷ (tyUnit, l₁₃) ∷ (lent-line-ty, l₁₄) ∷ (lent-lines-ty, l₁₅) ∷ []
 
         -- The context before a turn.
         abbrev I : St → List (Item 𝓤)
-        I z = Core z (‵ (froom lent-lines-ty l₁₅ 0) ∷ ‵ (fdies lent-lines-ty l₁₅) ∷ ‵ (froom lent-line-ty l₁₄ 0) ∷ ‵ (fdies lent-line-ty l₁₄) ∷ ‵ (froom tyUnit l₁₃ 0) ∷ ‵ (fdies tyUnit l₁₃) ∷ ‵ (froom lent-book-ty l₁₂ 0) ∷ ‵ (fdies lent-book-ty l₁₂) ∷ ‵ (froom tyBool l₁₁ 0) ∷ ‵ (fdies tyBool l₁₁) ∷ ‵ (froom (tyInt w64) l₁₀ 0) ∷ ‵ (fdies (tyInt w64) l₁₀) ∷ ‵ (froom (tyInt w8) l₉ 0) ∷ ‵ (fdies (tyInt w8) l₉) ∷ ‵ (froom T′.mir l₈ 0) ∷ ‵ (fdies T′.mir l₈) ∷ ‵ (froom X′.mir l₇ 0) ∷ ‵ (fdies X′.mir l₇) ∷ ‵ (froom (tyInt w8) l₆ 0) ∷ ‵ (fdies (tyInt w8) l₆) ∷ ‵ (fat fullShare (tyInt w64) l₅ 0 (vint w64 (z .n))) ∷ ‵ (fdies (tyInt w64) l₅) ∷ ‵ (fat fullShare (tyInt w64) l₄ 0 (vint w64 (z .at))) ∷ ‵ (fdies (tyInt w64) l₄) ∷ ‵ (fat fullShare lines-ty l₃ 0 lv₀) ∷ ‵ (fdies lines-ty l₃) ∷ ‵ (fat fullShare commands-ty l₂ 0 sv) ∷ ‵ (fdies commands-ty l₂) ∷ ‵ (fat fullShare book-ty l₁ 0 (vptr b o)) ∷ ‵ (fdies book-ty l₁) ∷ ‵ (froom R′.mir l₀ 0) ∷ ‵ (fdies R′.mir l₀) ∷ [])
+        I z = Core z (‵ (froom lent-lines-ty l₁₅ 0) ∷ ‵ (fdies lent-lines-ty l₁₅) ∷ ‵ (froom lent-line-ty l₁₄ 0) ∷ ‵ (fdies lent-line-ty l₁₄) ∷ ‵ (froom tyUnit l₁₃ 0) ∷ ‵ (fdies tyUnit l₁₃) ∷ ‵ (froom lent-book-ty l₁₂ 0) ∷ ‵ (fdies lent-book-ty l₁₂) ∷ ‵ (froom tyBool l₁₁ 0) ∷ ‵ (fdies tyBool l₁₁) ∷ ‵ (froom (tyInt w64) l₁₀ 0) ∷ ‵ (fdies (tyInt w64) l₁₀) ∷ ‵ (froom (tyInt w64) l₉ 0) ∷ ‵ (fdies (tyInt w64) l₉) ∷ ‵ (froom T′.mir l₈ 0) ∷ ‵ (fdies T′.mir l₈) ∷ ‵ (froom X′.mir l₇ 0) ∷ ‵ (fdies X′.mir l₇) ∷ ‵ (froom (tyInt w64) l₆ 0) ∷ ‵ (fdies (tyInt w64) l₆) ∷ ‵ (fat fullShare (tyInt w64) l₅ 0 (vint w64 (z .n))) ∷ ‵ (fdies (tyInt w64) l₅) ∷ ‵ (fat fullShare (tyInt w64) l₄ 0 (vint w64 (z .at))) ∷ ‵ (fdies (tyInt w64) l₄) ∷ ‵ (fat fullShare lines-ty l₃ 0 lv₀) ∷ ‵ (fdies lines-ty l₃) ∷ ‵ (fat fullShare commands-ty l₂ 0 sv) ∷ ‵ (fdies commands-ty l₂) ∷ ‵ (fat fullShare book-ty l₁ 0 (vptr b o)) ∷ ‵ (fdies book-ty l₁) ∷ ‵ (froom R′.mir l₀ 0) ∷ ‵ (fdies R′.mir l₀) ∷ [])
 
         -- When the loop is left, the rest of the body runs.
         abbrev Left : Out → SProp 𝓤

@@ -8,14 +8,12 @@ returns : tie.Need-returns
 unfolding fields
 returns c =
     let p = c .before .before .put-row in
-    let w = c .before .before .before .before .before .before .wide .ensures .0 in
-    (rw w at (p .ensures .0), rw w at (p .ensures .1), omega (arith, p .ensures .2))
+    (p .ensures .0, p .ensures .1, omega (arith, p .ensures .2))
 
 pub put-line-spec : {M : Type 1} → statement M
 put-line-spec =
     tie.close
     (tie.spec
-    (λ c κs. search needs)
     (λ c. search needs)
     (λ c. search needs)
     (λ c. search needs)
