@@ -27,17 +27,17 @@ struct row {
     const char *name;
     uint8_t bytes[136];
     size_t n;
-    uint8_t refusal, status;
+    uint32_t refusal, status;
 };
 
 // A book whose 64 channels are all in use, in the status that the row wants.
-static void fill(uint8_t status) {
+static void fill(uint32_t status) {
     static const uint8_t id[16] = {7};
     if (finaruvom_open(&full, id, 16) != 0)
         exit(1);
     for (int i = 0; i < 64; i++)
         full.channels[i] = (struct finaruvom_channel){
-            .status = status, .customer.deposit = 900, .merchant.deposit = 100, .delay = 3600, .deadline = 0, .kept = 700};
+            .customer.deposit = 900, .merchant.deposit = 100, .deadline = 0, .kept = 700, .delay = 3600, .status = status};
 }
 
 // The time of one command, each on the full book as it was, less the time that putting it back takes.
@@ -140,7 +140,7 @@ int main(void) {
             return 1;
         }
         copied = books_copied = 0;
-        finaruvom_apply(&books[0], row->bytes, row->n);
+        a = finaruvom_apply(&books[0], row->bytes, row->n);
         printf("%-20s %10.0f %10.0f %8.1f %8zu %14zu\n", row->name, 1e9 * c, 1e9 * l, l / c, books_copied, copied);
     }
     double copies = 1;

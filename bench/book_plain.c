@@ -2,7 +2,7 @@
 #include "book.h"
 #include <string.h>
 
-static const uint64_t MOST = INT64_MAX, MARK = 0x6172626974657221;
+static const uint64_t MOST = INT64_MAX, MARK = 0x6172626974657200 + FINARUVOM_LAYOUT;
 
 static uint64_t number(const uint8_t *s, int bytes) {
     uint64_t x = 0;
@@ -29,7 +29,7 @@ static bool typed(const uint8_t *key) {
     return number(key, 4) == 6 && number(key + 4, 4) == 4;
 }
 
-static uint8_t establish(struct finaruvom_channel *ch, const uint8_t *s) {
+static uint32_t establish(struct finaruvom_channel *ch, const uint8_t *s) {
     uint64_t c = number(s + 115, 8), b = number(s + 123, 8), delay = number(s + 131, 4);
     if (ch->status != 0)
         return 5;
@@ -43,12 +43,12 @@ static uint8_t establish(struct finaruvom_channel *ch, const uint8_t *s) {
     memcpy(ch->merchant.key, s + 59, 56);
     ch->customer.deposit = c;
     ch->merchant.deposit = b;
-    ch->delay = delay ? delay : 86400;
+    ch->delay = delay ? (uint32_t)delay : 86400;
     ch->status = 1;
     return 0;
 }
 
-static uint8_t fund(struct finaruvom_channel *ch, uint8_t op, uint64_t cents) {
+static uint32_t fund(struct finaruvom_channel *ch, uint8_t op, uint64_t cents) {
     if (ch->status != (op == 3 ? 1 : 2))
         return 5;
     if (cents != (op == 3 ? ch->customer.deposit : ch->merchant.deposit))
@@ -57,8 +57,8 @@ static uint8_t fund(struct finaruvom_channel *ch, uint8_t op, uint64_t cents) {
     return 0;
 }
 
-static struct finaruvom_answer refuse(uint8_t refusal) {
-    return (struct finaruvom_answer){refusal, 0, 0, 0};
+static struct finaruvom_answer refuse(uint32_t refusal) {
+    return (struct finaruvom_answer){.refusal = refusal};
 }
 
 static struct finaruvom_answer settle(struct finaruvom_channel *ch, uint64_t clock) {

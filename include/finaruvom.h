@@ -1,52 +1,141 @@
-// The channel arbiter for C: link libfinaruvom.a, which `rt staticlib finaruvom` makes (x86-64).
-// The customer is the paper's café, the merchant its bakery. Any values may stand in a book that is lent. A pointer must not be null, even
-// where the length beside it is 0, and what is lent for writing must not overlap anything else of the call.
+// The channel arbiter for C (C11) and C++ (C++11) on x86-64 Linux: link libfinaruvom.a, which `rt staticlib finaruvom` makes.
+// The customer is the paper's café, the merchant its bakery. What the bytes of a command mean stands in docs/FORMAT.md.
+//
+// Duties of the caller that hold for every function; each function says what it adds.
+// - A pointer is not null, not even where the length beside it is 0: lend any object then. It points to as many bytes as the length says.
+// - A book and lines are aligned to 8 bytes, as the compiler, malloc and calloc align them.
+// - What a call writes to (book, lines, digest, verdict, steps) overlaps nothing else that the call is lent, and nobody else reads or writes it
+//   during the call. What a call only reads, others may read at the same time. Different books are independent of each other.
+// - The thread has the bytes of stack that FINARUVOM_STACK_ names for the call.
+// Nothing is asked of the values: any bytes may stand in a book or in a command. No call allocates, keeps anything or fails to end.
 #ifndef FINARUVOM_H
 #define FINARUVOM_H
 #include <stdbool.h>
 #include <stddef.h>
 #include <stdint.h>
 
-// Money is in cents, time in seconds from 1970-01-01.
+#ifdef __cplusplus
+extern "C" {
+#define FINARUVOM_ASSERT static_assert
+#else
+#define FINARUVOM_ASSERT _Static_assert
+#endif
+
+// A call whose answer must be looked at: a dropped answer is a lost payment.
+#define FINARUVOM_CALL __attribute__((nonnull, warn_unused_result))
+
+// The version that this header belongs to, and the number of the book's layout, which the mark of every book carries.
+#define FINARUVOM_VERSION_MAJOR 0
+#define FINARUVOM_VERSION_MINOR 9
+#define FINARUVOM_VERSION_PATCH 0
+#define FINARUVOM_LAYOUT 2
+
+// Sizes in bytes, and the number of channels.
+#define FINARUVOM_ID_SIZE 16
+#define FINARUVOM_KEY_SIZE 56
+#define FINARUVOM_SIGNATURE_SIZE 1452
+#define FINARUVOM_DIGEST_SIZE 32
+#define FINARUVOM_CHANNELS 64
+#define FINARUVOM_PARTY_SIZE 64
+#define FINARUVOM_CHANNEL_SIZE 184
+#define FINARUVOM_BOOK_SIZE 11808
+#define FINARUVOM_ANSWER_SIZE 24
+#define FINARUVOM_LINE_SIZE 24
+#define FINARUVOM_READING_SIZE 72
+#define FINARUVOM_FOUND_SIZE 2
+#define FINARUVOM_RAN_SIZE 24
+#define FINARUVOM_VERSIONS_SIZE 16
+
+// Bytes of stack that are enough for a call.
+#define FINARUVOM_STACK_HASH 2048
+#define FINARUVOM_STACK_CHECK 4096
+#define FINARUVOM_STACK_OPEN 13312
+#define FINARUVOM_STACK_APPLY 16384
+#define FINARUVOM_STACK_RUN 16384
+#define FINARUVOM_STACK_READ 25600
+#define FINARUVOM_STACK_DUE 13312
+
+// Refusals, in the order in which a call makes its checks.
+enum finaruvom_refusal {
+    FINARUVOM_ACCEPTED = 0,
+    FINARUVOM_UNSOUND = 99, // the lent book is of no opening or another layout, or a value is out of range
+    FINARUVOM_UNKNOWN = 1,  // no first byte, or it is no command
+    FINARUVOM_LENGTH = 2,
+    FINARUVOM_TIME = 3,     // before the clock, or above 2^63 - 1
+    FINARUVOM_CHANNEL = 4,  // not below 64
+    FINARUVOM_STATUS = 5,   // the channel's status does not allow it
+    FINARUVOM_KEYS = 6,     // other types, or equal keys
+    FINARUVOM_DELAY = 7,
+    FINARUVOM_CENTS = 8,
+    FINARUVOM_DEADLINE = 9, // the clock is on its wrong side
+    FINARUVOM_SECRET = 10,  // it does not hash to the lock
+    FINARUVOM_MERCHANT = 11,
+    FINARUVOM_CUSTOMER = 12,
+};
+
+enum finaruvom_status {
+    FINARUVOM_UNUSED = 0,
+    FINARUVOM_AWAITING_CUSTOMER = 1,
+    FINARUVOM_AWAITING_MERCHANT = 2,
+    FINARUVOM_OPEN = 3,
+    FINARUVOM_MERCHANT_CLOSING = 4,
+    FINARUVOM_CUSTOMER_CLOSING = 5,
+    FINARUVOM_CLOSED = 6,
+};
+
+// Why a run stopped.
+enum finaruvom_cause {
+    FINARUVOM_NO_BYTES = 0,
+    FINARUVOM_NO_LINE = 13,
+    FINARUVOM_UNKNOWN_BYTE = 1,
+    FINARUVOM_CUT_SHORT = 2,
+};
+
+// Money is in cents, time in seconds from 1970-01-01. No struct has padding: equal values are equal bytes.
 struct finaruvom_party {
-    uint8_t key[56];
+    uint8_t key[FINARUVOM_KEY_SIZE];
     uint64_t deposit;
 };
 
 struct finaruvom_channel {
-    uint8_t status;
     struct finaruvom_party customer;
     struct finaruvom_party merchant;
-    uint32_t delay;
     uint64_t deadline;
     uint64_t kept;
-    uint8_t lock[32];
+    uint32_t delay;
+    uint32_t status;
+    uint8_t lock[FINARUVOM_DIGEST_SIZE];
 };
 
 struct finaruvom_book {
     uint64_t mark;
-    uint8_t id[16];
+    uint8_t id[FINARUVOM_ID_SIZE];
     uint64_t clock;
-    struct finaruvom_channel channels[64];
+    struct finaruvom_channel channels[FINARUVOM_CHANNELS];
 };
 
-// What a command answers: the refusal, or 0; what it paid to each side; the chain steps of its signature checks.
+// What a command answers: what it paid to each side, the chain steps of its signature checks, and the refusal, or 0.
 struct finaruvom_answer {
-    uint8_t refusal;
     uint64_t customer;
     uint64_t merchant;
     uint32_t steps;
+    uint32_t refusal;
+};
+
+// One line of a run: the command's answer.
+struct finaruvom_line {
+    struct finaruvom_answer answer;
 };
 
 // What a reading of a channel gives: the deadline is 0 outside statuses 4 and 5, the kept part and the lock are zeros outside 5.
 struct finaruvom_reading {
-    uint8_t refusal;
-    uint8_t status;
     uint64_t total;
     uint64_t held;
     uint64_t deadline;
     uint64_t kept;
-    uint8_t lock[32];
+    uint32_t refusal;
+    uint32_t status;
+    uint8_t lock[FINARUVOM_DIGEST_SIZE];
 };
 
 // The channel that is due next; 0 where there is none.
@@ -55,39 +144,67 @@ struct finaruvom_found {
     uint8_t channel;
 };
 
-// One line of a run: the command's answer.
-struct finaruvom_line {
-    struct finaruvom_answer answer;
-};
-
 // What a run answers: the lines that it wrote, the bytes that it used, and why it stopped.
 struct finaruvom_ran {
     size_t lines;
     size_t used;
-    uint8_t cause;
+    uint64_t cause;
 };
 
+// The version of the library that is linked, and the layout of its books.
+struct finaruvom_versions {
+    uint32_t major;
+    uint32_t minor;
+    uint32_t patch;
+    uint32_t layout;
+};
+
+FINARUVOM_ASSERT(sizeof(struct finaruvom_party) == FINARUVOM_PARTY_SIZE, "party");
+FINARUVOM_ASSERT(sizeof(struct finaruvom_channel) == FINARUVOM_CHANNEL_SIZE, "channel");
+FINARUVOM_ASSERT(sizeof(struct finaruvom_book) == FINARUVOM_BOOK_SIZE, "book");
+FINARUVOM_ASSERT(sizeof(struct finaruvom_answer) == FINARUVOM_ANSWER_SIZE, "answer");
+FINARUVOM_ASSERT(sizeof(struct finaruvom_line) == FINARUVOM_LINE_SIZE, "line");
+FINARUVOM_ASSERT(sizeof(struct finaruvom_reading) == FINARUVOM_READING_SIZE, "reading");
+FINARUVOM_ASSERT(sizeof(struct finaruvom_found) == FINARUVOM_FOUND_SIZE, "found");
+FINARUVOM_ASSERT(sizeof(struct finaruvom_ran) == FINARUVOM_RAN_SIZE, "ran");
+FINARUVOM_ASSERT(sizeof(struct finaruvom_versions) == FINARUVOM_VERSIONS_SIZE, "versions");
+
+// The library's version and layout, to be compared with the numbers above.
+struct finaruvom_versions finaruvom_version(void);
+
+// The layout. Its name carries the number and every program refers to it, so that one does not link with a library of another layout.
+uint32_t finaruvom_layout_2(void);
+__attribute__((used)) static uint32_t (*const finaruvom_linked_layout)(void) = finaruvom_layout_2;
+
 // The SHA-256 digest of at most 65,536 bytes, and 0; of more, zeros and 2.
-uint8_t finaruvom_hash(const uint8_t *bytes, size_t n, uint8_t digest[32]);
+// digest has 32 bytes; what stands there does not matter.
+FINARUVOM_CALL uint32_t finaruvom_hash(const uint8_t *bytes, size_t n, uint8_t digest[FINARUVOM_DIGEST_SIZE]);
 
 // The LMS signature check: verdict and chain steps, and 0; of a message of more than 1,024 bytes no, 0 and 2.
-uint8_t finaruvom_check(const uint8_t *key, size_t key_n, const uint8_t *message, size_t message_n, const uint8_t *signature,
-                        size_t signature_n, bool *verdict, uint32_t *steps);
+// *verdict holds false or true before the call (a byte of 0 or 1, so it is given a value first), and after it.
+FINARUVOM_CALL uint32_t finaruvom_check(const uint8_t *key, size_t key_n, const uint8_t *message, size_t message_n, const uint8_t *signature,
+                                        size_t signature_n, bool *verdict, uint32_t *steps);
 
 // Makes any lent book fresh, with the id, and answers 0; an id that is not 16 bytes long gives 2 and keeps every value.
-uint8_t finaruvom_open(struct finaruvom_book *book, const uint8_t *id, size_t id_n);
+// The book is written; what stands there does not matter.
+FINARUVOM_CALL uint32_t finaruvom_open(struct finaruvom_book *book, const uint8_t *id, size_t id_n);
 
-// Carries a command out on the lent book, or refuses it and keeps every value.
-struct finaruvom_answer finaruvom_apply(struct finaruvom_book *book, const uint8_t *command, size_t command_n);
+// Carries a command out on the lent book, or refuses it and keeps every value. The book is written, also where it is refused.
+FINARUVOM_CALL struct finaruvom_answer finaruvom_apply(struct finaruvom_book *book, const uint8_t *command, size_t command_n);
 
-// A reading of channel n: 99 and zeros of an unsound book, 4 and zeros for n from 64 on.
-struct finaruvom_reading finaruvom_read(const struct finaruvom_book *book, size_t n);
+// A reading of channel n: 99 and zeros of an unsound book, 4 and zeros for n from 64 on. The book is only read.
+FINARUVOM_CALL struct finaruvom_reading finaruvom_read(const struct finaruvom_book *book, size_t n);
 
-// The channel in status 4 or 5 with the smallest deadline, the lower number where equal; none of an unsound book.
-struct finaruvom_found finaruvom_due(const struct finaruvom_book *book);
+// The channel in status 4 or 5 with the smallest deadline, the lower number where equal; none of an unsound book. The book is only read.
+FINARUVOM_CALL struct finaruvom_found finaruvom_due(const struct finaruvom_book *book);
 
 // Runs a journal's commands on the lent book and writes a line for each; later lines keep their content. It stops at the first of these: no
 // bytes left (cause 0), no line left (13), first byte unknown (1), fewer bytes than the command needs (2).
-struct finaruvom_ran finaruvom_run(struct finaruvom_book *book, const uint8_t *commands, size_t commands_n, struct finaruvom_line *lines,
-                                   size_t lines_n);
+// Book and lines are written, also where all is refused; lines point to lines_n lines, of which there may be 0.
+FINARUVOM_CALL struct finaruvom_ran finaruvom_run(struct finaruvom_book *book, const uint8_t *commands, size_t commands_n,
+                                                  struct finaruvom_line *lines, size_t lines_n);
+
+#ifdef __cplusplus
+}
+#endif
 #endif

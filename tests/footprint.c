@@ -1,5 +1,5 @@
 // How often each call copies the book and how much stack it takes, held to limits: a command copies the book out of the lender's memory and
-// back, and no more. A further copy that the compiler wrote without a call would show on the stack, which has room for one book there.
+// back, and no more, and the stack is what the header says. A further copy that the compiler wrote without a call would show on the stack.
 #define _XOPEN_SOURCE 700
 #include "../bench/copied.h"
 #include <stdio.h>
@@ -19,7 +19,8 @@ static struct finaruvom_ran ran;
 // A command of each kind on a full book, and refusals. A signature that is refused with 11 or 12 was walked to its end.
 static const struct row {
     const char *name;
-    uint8_t op, status, refusal;
+    uint8_t op;
+    uint32_t status, refusal;
     uint64_t deadline;
     size_t size, cents_at, signature_at; // 0: it has none
     uint64_t first, second;
@@ -46,19 +47,20 @@ static void typed(uint8_t *key, uint8_t last) {
 }
 
 // A book whose 64 channels are all in this status.
-static void fill(uint8_t status, uint64_t deadline) {
+static void fill(uint32_t status, uint64_t deadline) {
     static const uint8_t id[16] = {7}, secret[32] = {0};
     if (finaruvom_open(&book, id, 16) != 0)
         exit(1);
     book.clock = CLOCK;
     for (int i = 0; i < 64; i++) {
         struct finaruvom_channel *ch = &book.channels[i];
-        *ch = (struct finaruvom_channel){.status = status, .delay = 3600, .deadline = deadline, .kept = 700};
+        *ch = (struct finaruvom_channel){.deadline = deadline, .kept = 700, .delay = 3600, .status = status};
         typed(ch->customer.key, 1);
         typed(ch->merchant.key, 2);
         ch->customer.deposit = 900;
         ch->merchant.deposit = 100;
-        finaruvom_hash(secret, 32, ch->lock);
+        if (finaruvom_hash(secret, 32, ch->lock) != 0)
+            exit(1);
     }
 }
 
@@ -116,6 +118,18 @@ static void due(void) {
     answer.refusal = !finaruvom_due(&book).some;
 }
 
+static void hash(void) {
+    static uint8_t digest[32];
+    answer.refusal = finaruvom_hash(command, 1000, digest);
+}
+
+// A signature that is walked to its end.
+static void check(void) {
+    bool good = true;
+    answer.refusal = finaruvom_check(book.channels[N].merchant.key, 56, command, 35, command + 19, 1452, &good, &answer.steps);
+    answer.refusal |= good || answer.steps == 0;
+}
+
 static ucontext_t here, there;
 static uint8_t stack[STACK];
 
@@ -137,17 +151,17 @@ static size_t stack_of(void (*call)(void)) {
 
 static int wrong;
 
-// Makes the call, prints what it took, and holds it to the limits: two books copied and little else for each of its `turns`, and a stack of less
-// than so many books.
-static void measure(const char *name, void (*call)(void), bool expected(void), size_t turns, size_t books) {
+// Makes the call, prints what it took, and holds it to the limits: two books copied and little else for each of its `turns`, and the bytes of
+// stack that the header names.
+static void measure(const char *name, void (*call)(void), bool expected(void), size_t turns, size_t limit) {
     size_t took = stack_of(call), copies = (books_copied + turns - 1) / turns;
-    bool answer_good = expected(), small = copies <= 2 && copied <= turns * (2 * sizeof book + 4096) && took < books * sizeof book;
+    bool answer_good = expected(), small = copies <= 2 && copied <= turns * (2 * sizeof book + 4096) && took <= limit;
     printf("%-20s copies of the book %zu, bytes copied %6zu, of stack %6zu%s%s\n", name, copies, copied / turns, took, answer_good ? "" : ": ANOTHER ANSWER",
            small ? "" : ": OVER ITS LIMIT");
     wrong |= !answer_good || !small;
 }
 
-static uint8_t refusal;
+static uint32_t refusal;
 
 static bool refused(void) {
     return answer.refusal == refusal && (answer.steps != 0) == (refusal == 11 || refusal == 12);
@@ -171,16 +185,18 @@ int main(void) {
         fill(row->status, row->deadline);
         file(row);
         refusal = row->refusal;
-        measure(row->name, apply, refused, 1, 2);
+        measure(row->name, apply, refused, 1, FINARUVOM_STACK_APPLY);
     }
     fill(5, CLOCK);
-    measure("a run, each settle", run, ran_all, 3, 2);
+    measure("a run, each settle", run, ran_all, 3, FINARUVOM_STACK_RUN);
     fill(3, 0);
     file(&rows[MUTUAL]);
-    measure("a run of an 06", run_filed, ran_filed, 1, 2);
+    measure("a run of an 06", run_filed, ran_filed, 1, FINARUVOM_STACK_RUN);
+    measure("check", check, answered_0, 1, FINARUVOM_STACK_CHECK);
+    measure("hash", hash, answered_0, 1, FINARUVOM_STACK_HASH);
     fill(5, CLOCK);
-    measure("read", read_channel, answered_0, 1, 3);
-    measure("due", due, answered_0, 1, 3);
-    measure("open", open_book, answered_0, 1, 3);
+    measure("read", read_channel, answered_0, 1, FINARUVOM_STACK_READ);
+    measure("due", due, answered_0, 1, FINARUVOM_STACK_DUE);
+    measure("open", open_book, answered_0, 1, FINARUVOM_STACK_OPEN);
     return wrong;
 }

@@ -7,15 +7,31 @@
 #define AT(type, field, place) _Static_assert(offsetof(struct finaruvom_##type, field) == (place), #type "." #field)
 #define SIZE(type, bytes) _Static_assert(sizeof(struct finaruvom_##type) == (bytes), #type)
 SIZE(party, 64); AT(party, key, 0); AT(party, deposit, 56);
-SIZE(channel, 192); AT(channel, status, 0); AT(channel, customer, 8); AT(channel, merchant, 72); AT(channel, delay, 136);
-AT(channel, deadline, 144); AT(channel, kept, 152); AT(channel, lock, 160);
-SIZE(book, 12320); AT(book, mark, 0); AT(book, id, 8); AT(book, clock, 24); AT(book, channels, 32);
-SIZE(answer, 32); AT(answer, refusal, 0); AT(answer, customer, 8); AT(answer, merchant, 16); AT(answer, steps, 24);
-SIZE(reading, 72); AT(reading, refusal, 0); AT(reading, status, 1); AT(reading, total, 8); AT(reading, held, 16);
-AT(reading, deadline, 24); AT(reading, kept, 32); AT(reading, lock, 40);
+SIZE(channel, 184); AT(channel, customer, 0); AT(channel, merchant, 64); AT(channel, deadline, 128); AT(channel, kept, 136);
+AT(channel, delay, 144); AT(channel, status, 148); AT(channel, lock, 152);
+SIZE(book, 11808); AT(book, mark, 0); AT(book, id, 8); AT(book, clock, 24); AT(book, channels, 32);
+SIZE(answer, 24); AT(answer, customer, 0); AT(answer, merchant, 8); AT(answer, steps, 16); AT(answer, refusal, 20);
+SIZE(line, 24); AT(line, answer, 0);
+SIZE(reading, 72); AT(reading, total, 0); AT(reading, held, 8); AT(reading, deadline, 16); AT(reading, kept, 24);
+AT(reading, refusal, 32); AT(reading, status, 36); AT(reading, lock, 40);
 SIZE(found, 2); AT(found, some, 0); AT(found, channel, 1);
-SIZE(line, 32); AT(line, answer, 0);
 SIZE(ran, 24); AT(ran, lines, 0); AT(ran, used, 8); AT(ran, cause, 16);
+SIZE(versions, 16); AT(versions, major, 0); AT(versions, minor, 4); AT(versions, patch, 8); AT(versions, layout, 12);
+
+// The sizes of the fields add up to the struct's: there is no padding.
+#define OF(type, field) sizeof(((struct finaruvom_##type *)0)->field)
+#define FILLED(type, fields) _Static_assert(sizeof(struct finaruvom_##type) == (fields), #type " has padding")
+FILLED(party, OF(party, key) + OF(party, deposit));
+FILLED(channel, OF(channel, customer) + OF(channel, merchant) + OF(channel, deadline) + OF(channel, kept) + OF(channel, delay) +
+                    OF(channel, status) + OF(channel, lock));
+FILLED(book, OF(book, mark) + OF(book, id) + OF(book, clock) + OF(book, channels));
+FILLED(answer, OF(answer, customer) + OF(answer, merchant) + OF(answer, steps) + OF(answer, refusal));
+FILLED(line, OF(line, answer));
+FILLED(reading, OF(reading, total) + OF(reading, held) + OF(reading, deadline) + OF(reading, kept) + OF(reading, refusal) +
+                    OF(reading, status) + OF(reading, lock));
+FILLED(found, OF(found, some) + OF(found, channel));
+FILLED(ran, OF(ran, lines) + OF(ran, used) + OF(ran, cause));
+FILLED(versions, OF(versions, major) + OF(versions, minor) + OF(versions, patch) + OF(versions, layout));
 
 static void same(const char *what, const void *bytes, size_t place, const void *expected, size_t n) {
     if (memcmp((const uint8_t *)bytes + place, expected, n) != 0) {
@@ -28,6 +44,10 @@ static void number(const char *what, const void *bytes, size_t place, uint64_t x
     same(what, bytes, place, &x, n); // x86-64 is little-endian
 }
 
+static void answers(const char *what, uint32_t refusal, uint32_t expected) {
+    number(what, &refusal, 0, expected, 4);
+}
+
 static void big_endian(uint8_t *s, uint64_t x, int n) {
     for (int i = 0; i < n; i++)
         s[i] = (uint8_t)(x >> 8 * (n - 1 - i));
@@ -35,24 +55,40 @@ static void big_endian(uint8_t *s, uint64_t x, int n) {
 
 static struct finaruvom_book book;
 
+static void version(void) {
+    struct finaruvom_versions v = finaruvom_version();
+    number("the header's major version", &v, 0, FINARUVOM_VERSION_MAJOR, 4);
+    number("the header's minor version", &v, 4, FINARUVOM_VERSION_MINOR, 4);
+    number("the header's patch version", &v, 8, FINARUVOM_VERSION_PATCH, 4);
+    number("the header's layout", &v, 12, FINARUVOM_LAYOUT, 4);
+    answers("the layout that is linked", finaruvom_linked_layout(), FINARUVOM_LAYOUT);
+}
+
+// Every byte of a fresh book is the same, whatever stood there.
 static void opened(void) {
+    static struct finaruvom_book other;
     uint8_t id[16];
     for (int i = 0; i < 16; i++)
         id[i] = (uint8_t)(i + 1);
     memset(&book, 0xAA, sizeof book);
-    number("a refused opening", &(uint8_t){finaruvom_open(&book, id, 15)}, 0, 2, 1);
+    memset(&other, 0x55, sizeof other);
+    answers("a refused opening", finaruvom_open(&book, id, 15), 2);
     number("the lent book", &book, 0, 0xAAAAAAAAAAAAAAAA, 8);
-    number("an opening", &(uint8_t){finaruvom_open(&book, id, 16)}, 0, 0, 1);
-    number("mark", &book, 0, 0x6172626974657221, 8);
+    answers("an opening", finaruvom_open(&book, id, 16), 0);
+    answers("another opening", finaruvom_open(&other, id, 16), 0);
+    same("each byte of a fresh book", &book, 0, &other, sizeof book);
+    number("mark", &book, 0, 0x6172626974657200 + FINARUVOM_LAYOUT, 8);
     same("id", &book, 8, id, 16);
     number("clock", &book, 24, 0, 8);
+    memset(&other, 0, sizeof other);
+    same("a channel's zeros", &book, 32, &other, sizeof book - 32);
 }
 
 // A clock command and an 02 for channel 3.
 static void established(void) {
     uint8_t clock[9] = {1}, s[135] = {2, 0, 3};
     big_endian(clock + 1, 0x0123456789ABCDEF, 8);
-    finaruvom_apply(&book, clock, sizeof clock);
+    answers("a clock command", finaruvom_apply(&book, clock, sizeof clock).refusal, 0);
     number("clock", &book, 24, 0x0123456789ABCDEF, 8);
     for (int i = 3; i < 115; i++)
         s[i] = (uint8_t)i;
@@ -60,14 +96,14 @@ static void established(void) {
         big_endian(s + key, 6, 4), big_endian(s + key + 4, 4, 4);
     big_endian(s + 115, 900, 8), big_endian(s + 123, 100, 8), big_endian(s + 131, 3601, 4);
     struct finaruvom_answer answer = finaruvom_apply(&book, s, sizeof s);
-    number("refusal", &answer, 0, 0, 1);
-    const size_t at = 32 + 3 * 192;
-    number("status", &book, at, 1, 1);
-    same("the customer's key", &book, at + 8, s + 3, 56);
-    number("the customer's deposit", &book, at + 64, 900, 8);
-    same("the merchant's key", &book, at + 72, s + 59, 56);
-    number("the merchant's deposit", &book, at + 128, 100, 8);
-    number("delay", &book, at + 136, 3601, 4);
+    number("refusal", &answer, 20, 0, 4);
+    const size_t at = 32 + 3 * 184;
+    same("the customer's key", &book, at, s + 3, 56);
+    number("the customer's deposit", &book, at + 56, 900, 8);
+    same("the merchant's key", &book, at + 64, s + 59, 56);
+    number("the merchant's deposit", &book, at + 120, 100, 8);
+    number("delay", &book, at + 144, 3601, 4);
+    number("status", &book, at + 148, 1, 4);
 }
 
 // A customer's closing as a lender may write it, read, due and settled by a run.
@@ -77,30 +113,31 @@ static void closing(void) {
     for (int i = 0; i < 32; i++)
         ch->lock[i] = (uint8_t)(200 + i);
     struct finaruvom_reading r = finaruvom_read(&book, 3);
-    number("refusal and status", &r, 0, 0x0500, 2);
-    number("total", &r, 8, 1000, 8), number("held", &r, 16, 700, 8);
-    number("deadline", &r, 24, 77, 8), number("kept", &r, 32, 700, 8);
+    number("total", &r, 0, 1000, 8), number("held", &r, 8, 700, 8);
+    number("deadline", &r, 16, 77, 8), number("kept", &r, 24, 700, 8);
+    number("refusal of a reading", &r, 32, 0, 4), number("status of a reading", &r, 36, 5, 4);
     same("lock", &r, 40, ch->lock, 32);
     r = finaruvom_read(&book, 64);
-    number("refusal of a far channel", &r, 0, 4, 2);
+    number("refusal of a far channel", &r, 32, 4, 8);
     struct finaruvom_found found = finaruvom_due(&book);
     number("due", &found, 0, 0x0301, 2);
     struct finaruvom_line lines[3];
     memset(lines, 0x55, sizeof lines);
     struct finaruvom_ran ran = finaruvom_run(&book, (const uint8_t[]){10, 0, 3, 10, 0, 4, 11}, 7, lines, 3);
-    number("lines written", &ran, 0, 2, 8), number("bytes used", &ran, 8, 6, 8), number("cause", &ran, 16, 1, 1);
-    number("refusal", lines, 0, 0, 1), number("paid to the customer", lines, 8, 700, 8);
-    number("paid to the merchant", lines, 16, 0, 8), number("steps", lines, 24, 0, 4);
-    number("refusal of the second line", lines, 32, 5, 1);
-    number("a later line", lines, 64, 0x5555555555555555, 8);
+    number("lines written", &ran, 0, 2, 8), number("bytes used", &ran, 8, 6, 8), number("cause", &ran, 16, 1, 8);
+    number("paid to the customer", lines, 0, 700, 8), number("paid to the merchant", lines, 8, 0, 8);
+    number("steps", lines, 16, 0, 4), number("refusal of the first line", lines, 20, 0, 4);
+    number("refusal of the second line", lines, 44, 5, 4);
+    number("a later line", lines, 48, 0x5555555555555555, 8);
     found = finaruvom_due(&book);
     number("due", &found, 0, 0, 2);
 }
 
 int main(void) {
+    version();
     opened();
     established();
     closing();
-    puts("ok: every field stands where the header says");
+    puts("ok: every field stands where the header says, and no struct has padding");
     return 0;
 }

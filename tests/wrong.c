@@ -8,14 +8,26 @@ static inline void swap(struct finaruvom_answer *answer) {
     answer->merchant = customer;
 }
 
-#ifdef OPEN
-uint8_t right(struct finaruvom_book *book, const uint8_t *id, size_t id_n);
+#ifdef VERSION // ANOTHER_LAYOUT
+struct finaruvom_versions finaruvom_version(void) {
+    return (struct finaruvom_versions){FINARUVOM_VERSION_MAJOR, FINARUVOM_VERSION_MINOR, FINARUVOM_VERSION_PATCH, FINARUVOM_LAYOUT + 1};
+}
+#endif
 
-uint8_t finaruvom_open(struct finaruvom_book *book, const uint8_t *id, size_t id_n) {
+#ifdef OPEN
+uint32_t right(struct finaruvom_book *book, const uint8_t *id, size_t id_n);
+
+uint32_t finaruvom_open(struct finaruvom_book *book, const uint8_t *id, size_t id_n) {
 #ifdef CLEARS_FIRST
     memset(book, 0, sizeof *book);
 #endif
-    uint8_t refusal = right(book, id, id_n);
+#ifdef LEAVES_A_BYTE
+    uint8_t old = book->channels[63].lock[31];
+#endif
+    uint32_t refusal = right(book, id, id_n);
+#ifdef LEAVES_A_BYTE
+    book->channels[63].lock[31] = old;
+#endif
 #ifdef ANOTHER_MARK
     book->mark += refusal == 0;
 #endif
@@ -35,7 +47,14 @@ struct finaruvom_answer finaruvom_apply(struct finaruvom_book *book, const uint8
     volatile uint8_t room[2 * sizeof *book];
     (void)room;
 #endif
+#ifdef ANY_LAYOUT
+    uint64_t mark = book->mark;
+    book->mark = 0x6172626974657200 + FINARUVOM_LAYOUT;
+#endif
     struct finaruvom_answer answer = right(book, command, command_n);
+#ifdef ANY_LAYOUT
+    book->mark = mark;
+#endif
 #ifdef SWAPS
     swap(&answer);
 #endif

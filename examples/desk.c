@@ -1,0 +1,137 @@
+// A desk's program: it files the commands of a journal one by one, pays what is answered, and shows that the journal gives the same book again.
+//     gcc -Iinclude examples/desk.c target/staticlib/libfinaruvom.a -o target/desk && target/desk examples/week.journal
+#include "finaruvom.h"
+#include <inttypes.h>
+#include <stdio.h>
+#include <stdlib.h>
+#include <string.h>
+
+enum { INPUT = 65536, COMMANDS = 64, BATCH = 8 };
+
+static uint8_t input[INPUT];
+static size_t input_n;
+static struct finaruvom_book book;
+static struct finaruvom_answer answers[COMMANDS]; // what a desk keeps beside its journal
+static size_t filed;
+
+static void must(bool holds, const char *what) {
+    if (!holds) {
+        fprintf(stderr, "desk: %s\n", what);
+        exit(1);
+    }
+}
+
+// The whole length of a command, by its first byte; 0 for no command.
+static size_t size_of(uint8_t first) {
+    static const size_t sizes[] = {0, 9, 135, 11, 11, 1455, 2923, 2955, 1455, 1487, 3};
+    return first < sizeof sizes / sizeof sizes[0] ? sizes[first] : 0;
+}
+
+static const char *name_of(uint8_t first) {
+    static const char *const names[] = {"no command", "clock", "establish", "fund customer", "fund merchant", "reclaim", "mutual close",
+                                        "customer closes", "merchant closes", "dispute", "settle"};
+    return first < sizeof names / sizeof names[0] ? names[first] : names[0];
+}
+
+// The header and the library are of one version.
+static void check_version(void) {
+    struct finaruvom_versions v = finaruvom_version();
+    must(v.major == FINARUVOM_VERSION_MAJOR && v.minor == FINARUVOM_VERSION_MINOR && v.layout == FINARUVOM_LAYOUT, "another library than the header's");
+    printf("library %" PRIu32 ".%" PRIu32 ".%" PRIu32 ", layout %" PRIu32 "\n", v.major, v.minor, v.patch, v.layout);
+}
+
+static void read_input(const char *path) {
+    FILE *file = fopen(path, "rb");
+    must(file != NULL, "no journal");
+    input_n = fread(input, 1, INPUT, file);
+    must(ferror(file) == 0 && fclose(file) == 0 && input_n >= FINARUVOM_ID_SIZE, "no book id in the journal");
+}
+
+// What the desk knows of a channel, and which one is due next.
+static void show(size_t n) {
+    struct finaruvom_reading r = finaruvom_read(&book, n);
+    must(r.refusal == FINARUVOM_ACCEPTED, "an unsound book");
+    printf("    channel %zu: status %" PRIu32 ", held %" PRIu64 " of %" PRIu64 ", deadline %" PRIu64, n, r.status, r.held, r.total, r.deadline);
+    struct finaruvom_found due = finaruvom_due(&book);
+    if (due.some)
+        printf("; due next: channel %u\n", due.channel);
+    else
+        puts("; none is due");
+}
+
+// One command: here a desk has written it to its journal already, and pays what is answered.
+static void file_command(const uint8_t *command, size_t n) {
+    struct finaruvom_answer a = finaruvom_apply(&book, command, n);
+    must(filed < COMMANDS, "too many commands");
+    answers[filed++] = a;
+    printf("%2zu %s: ", filed, name_of(command[0]));
+    if (a.refusal != FINARUVOM_ACCEPTED)
+        printf("refused with %" PRIu32 "\n", a.refusal);
+    else if (a.customer == 0 && a.merchant == 0)
+        puts("carried out");
+    else
+        printf("pays %" PRIu64 " to the customer, %" PRIu64 " to the merchant\n", a.customer, a.merchant);
+    if (command[0] > 5)
+        show((size_t)(command[1] << 8 | command[2]));
+}
+
+// Files the commands behind the id, as they came from the tills.
+static void file_all(void) {
+    size_t at = FINARUVOM_ID_SIZE;
+    while (at < input_n) {
+        size_t n = size_of(input[at]);
+        must(n != 0 && n <= input_n - at, "a command that is unknown or cut short");
+        file_command(input + at, n);
+        at += n;
+    }
+}
+
+// After a crash: a book opened with the same id, and the journal run again, so many lines at a time. Answers and book are the same.
+static void recover(void) {
+    static struct finaruvom_book again;
+    struct finaruvom_line lines[BATCH];
+    size_t at = FINARUVOM_ID_SIZE, line = 0;
+    struct finaruvom_ran ran;
+    must(finaruvom_open(&again, input, FINARUVOM_ID_SIZE) == FINARUVOM_ACCEPTED, "the opening was refused");
+    do {
+        ran = finaruvom_run(&again, input + at, input_n - at, lines, BATCH);
+        must(line + ran.lines <= filed && memcmp(lines, answers + line, ran.lines * sizeof lines[0]) == 0, "other answers");
+        at += ran.used;
+        line += ran.lines;
+    } while (ran.cause == FINARUVOM_NO_LINE);
+    must(ran.cause == FINARUVOM_NO_BYTES && line == filed, "another number of lines");
+    must(memcmp(&again, &book, sizeof book) == 0, "another book");
+    printf("run again: %zu lines, the same answers and the same book\n", line);
+}
+
+// A refused command leaves every byte of the book.
+static void refuse(void) {
+    static const uint8_t settle[] = {0x0a, 0, 63};
+    struct finaruvom_book before = book;
+    struct finaruvom_answer a = finaruvom_apply(&book, settle, sizeof settle);
+    must(a.refusal == FINARUVOM_STATUS && memcmp(&before, &book, sizeof book) == 0, "a refused command left a trace");
+    puts("a settle of channel 63, which is unused: refused with 5, and every byte stays");
+}
+
+// A book that was damaged where it shows, and one of another layout: every call says so.
+static void damage(void) {
+    static const uint8_t clock[9] = {1, 0x7f};
+    struct finaruvom_book damaged = book, older = book;
+    damaged.channels[5].status = 9;
+    older.mark--;
+    must(finaruvom_apply(&damaged, clock, sizeof clock).refusal == FINARUVOM_UNSOUND, "a damaged book was taken");
+    must(finaruvom_read(&older, 0).refusal == FINARUVOM_UNSOUND && !finaruvom_due(&older).some, "a book of another layout was taken");
+    puts("a damaged book, and one of another layout: refused with 99");
+}
+
+int main(int argc, char **argv) {
+    must(argc == 2, "desk JOURNAL");
+    check_version();
+    read_input(argv[1]);
+    must(finaruvom_open(&book, input, FINARUVOM_ID_SIZE) == FINARUVOM_ACCEPTED, "the opening was refused");
+    file_all();
+    recover();
+    refuse();
+    damage();
+    return 0;
+}
