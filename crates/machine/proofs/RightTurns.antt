@@ -9,7 +9,7 @@ use lib.ListN.{getD, drop}
 use borrow.Author.Tests.{ne-eqb, eqb-false, lt-ltb}
 use Rattle.lms.specs.Layout.{typedKey}
 use Rattle.machine.specs.Format.{opcode, time, place}
-use Rattle.machine.specs.Book.{sound, total, readChannel, channel}
+use Rattle.machine.specs.Book.{layout, markOf, theMark, sound, total, readChannel, channel}
 use Rattle.machine.specs.Checks.{Check, test, Verdict, clean, ask, judge}
 use Rattle.machine.specs.Rules.{Plan, delayed, keyed, delayFits, depositsFit, establish, fundCustomer, fundMerchant, reclaim, mutualClose, customerClose, merchantClose, dispute, settle}
 use Rattle.machine.specs.Machine.{answer, concluded, ruling, Order, setClock, onChannel, formed, shared, carried, noPlan, plans, plan, order, step}
@@ -70,6 +70,10 @@ module _ (check : List ℕ → List ℕ → List ℕ → Verdict) (hash : List �
   unfolding step
   unsound b s e = first-no 99 (sound b) (formed s ((order check hash b s) .checks)) b (order check hash b s) e (eqb-false 99 0 refl)
 
+  other-layout : (b : Book) (s : List ℕ) (n : ℕ) → b .mark ≡ markOf n → (n ≡ layout → ⊥) → step check hash b s ≡ record { book = b; answer = refusal 99 0 }
+  unfolding sound
+  other-layout b s n e h = unsound b s (rw (ne-eqb (b .mark) theMark (λ m. h (omega (arith, e, m)))))
+
   refused : (b : Book) (s : List ℕ) → ((step check hash b s) .answer .refusal ≡ 0 → ⊥)
       → step check hash b s ≡ record { book = b; answer = refusal ((step check hash b s) .answer .refusal) ((step check hash b s) .answer .steps) }
   unfolding step answer
@@ -79,6 +83,7 @@ module _ (check : List ℕ → List ℕ → List ℕ → Verdict) (hash : List �
   unfolding total readChannel ask delayed establish reclaim customerClose dispute settle answer concluded ruling
   right-turns = record {
     unsound = unsound;
+    other-layout = other-layout;
     refused = refused;
     unused = λ ch e. rw e;
     establishes = λ customer merchant ch. record { day = refl; deadline = λ d. refl; kept = λ d. refl; lock = λ d. refl };

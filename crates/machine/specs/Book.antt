@@ -36,9 +36,13 @@ longest = 2592000
 abbrev pub layout : ℕ
 layout = 2
 
--- The mark that every opening writes: "arbiter" in bytes, then the layout.
+-- The mark of a layout: "arbiter" in bytes, then its number.
+abbrev pub markOf : ℕ → ℕ
+markOf n = 0x6172_6269_7465_7200 + n
+
+-- The mark that every opening writes.
 abbrev pub theMark : ℕ
-theMark = 0x6172_6269_7465_7200 + layout
+theMark = markOf layout
 
 -- ---- a channel
 

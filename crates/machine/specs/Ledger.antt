@@ -63,7 +63,7 @@ nothing = record { customer = 0; merchant = 0 }
 
 -- An answer of zeros, which stands past the end of a history.
 abbrev pub noAnswer : Answer
-noAnswer = record { refusal = 0; customer = cents 0; merchant = cents 0; steps = 0 }
+noAnswer = record { customer = cents 0; merchant = cents 0; steps = 0; refusal = 0 }
 
 -- The entry at a place of a history.
 abbrev pub entryAt : List Entry → ℕ → Entry

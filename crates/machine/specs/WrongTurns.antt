@@ -7,7 +7,7 @@ use lib.Dec.{ltb}
 use lib.ListN.{getD}
 use Rattle.lms.specs.Layout.{typedKey}
 use Rattle.machine.specs.Format.{opcode}
-use Rattle.machine.specs.Book.{cents, seconds, sound, readChannel}
+use Rattle.machine.specs.Book.{cents, seconds, layout, markOf, sound, readChannel}
 use Rattle.machine.specs.Checks.{Verdict, Check, numberOf}
 use Rattle.machine.specs.Rules.{Plan, keyed, delayFits, establish, reclaim, customerClose, dispute, settle}
 use Rattle.machine.specs.Machine.{ruling, formed, order, step}
@@ -17,7 +17,7 @@ use Rattle.machine.specs.declared.state.Book.{Book}
 use Rattle.machine.specs.declared.answers.Answer.{Answer}
 
 abbrev pub refusal : ℕ → ℕ → Answer
-refusal r steps = record { refusal = r; customer = cents 0; merchant = cents 0; steps = steps }
+refusal r steps = record { customer = cents 0; merchant = cents 0; steps = steps; refusal = r }
 
 -- What a rule answers on a channel.
 abbrev pub answered : Channel → Plan → Answer
@@ -42,8 +42,10 @@ pub record Establishes (customer merchant : Party) (ch : Channel) : Type 0 where
 
 module _ (check : List ℕ → List ℕ → List ℕ → Verdict) (hash : List ℕ → List ℕ) where
   pub record WrongTurns : Type 0 where
-    -- 99 comes before everything, also for the empty string.
+    -- An unsound book says 99 before everything, also to the empty string.
     pub unsound : (b : Book) (s : List ℕ) → sound b ≡ false → step check hash b s ≡ record { book = b; answer = refusal 99 0 }
+    -- So does a book of another layout.
+    pub other-layout : (b : Book) (s : List ℕ) (n : ℕ) → b .mark ≡ markOf n → (n ≡ layout → ⊥) → step check hash b s ≡ record { book = b; answer = refusal 99 0 }
     -- A refused command pays 0 and 0 and changes no value of the book.
     pub refused : (b : Book) (s : List ℕ) → ((step check hash b s) .answer .refusal ≡ 0 → ⊥)
         → step check hash b s ≡ record { book = b; answer = refusal ((step check hash b s) .answer .refusal) ((step check hash b s) .answer .steps) }
