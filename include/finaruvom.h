@@ -1,13 +1,14 @@
 // The channel arbiter for C (C11) and C++ (C++11) on x86-64 Linux: link libfinaruvom.a, which `rt staticlib finaruvom` makes.
 // The customer is the paper's café, the merchant its bakery. What the bytes of a command mean stands in docs/FORMAT.md.
 //
-// Duties of the caller that hold for every function; each function says what it adds.
-// - A pointer is not null, not even where the length beside it is 0: lend any object then. It points to as many bytes as the length says.
-// - A book and lines are aligned to 8 bytes, as the compiler, malloc and calloc align them.
-// - What a call writes to (book, lines, digest, verdict, steps) overlaps nothing else that the call is lent, and nobody else reads or writes it
-//   during the call. What a call only reads, others may read at the same time. Different books are independent of each other.
-// - The thread has the bytes of stack that FINARUVOM_STACK_ names for the call.
-// Nothing is asked of the values: any bytes may stand in a book or in a command. No call allocates, keeps anything or fails to end.
+// Nothing is asked of the values that a caller lends: any bytes may stand in a book or in a command. What is asked of him stands under "Duties" at each
+// function, in these words:
+// - not null: the pointer is not NULL, not even where the length beside it is 0 (lend any object then), and as many bytes stand there as the length says;
+// - aligned: the address is a multiple of 8, as that of a variable of the type is, and what malloc gives;
+// - alone: during the call nobody else reads or writes it, and it overlaps nothing else that the call is lent;
+// - shared: others may read it at the same time, but nobody writes it;
+// - stack: the bytes of stack that the thread has left are at least these.
+// No call allocates, keeps a pointer, has a state of its own or fails to end. Different books are independent of each other.
 #ifndef FINARUVOM_H
 #define FINARUVOM_H
 #include <stdbool.h>
@@ -138,7 +139,7 @@ struct finaruvom_reading {
     uint8_t lock[FINARUVOM_DIGEST_SIZE];
 };
 
-// The channel that is due next; 0 where there is none.
+// The channel that is due next; false and 0 where there is none.
 struct finaruvom_found {
     bool some;
     uint8_t channel;
@@ -169,7 +170,7 @@ FINARUVOM_ASSERT(sizeof(struct finaruvom_found) == FINARUVOM_FOUND_SIZE, "found"
 FINARUVOM_ASSERT(sizeof(struct finaruvom_ran) == FINARUVOM_RAN_SIZE, "ran");
 FINARUVOM_ASSERT(sizeof(struct finaruvom_versions) == FINARUVOM_VERSIONS_SIZE, "versions");
 
-// The library's version and layout, to be compared with the numbers above.
+// The library's version and layout, to be compared with the numbers above. No duties.
 struct finaruvom_versions finaruvom_version(void);
 
 // The layout. Its name carries the number and every program refers to it, so that one does not link with a library of another layout.
@@ -177,30 +178,34 @@ uint32_t finaruvom_layout_2(void);
 __attribute__((used)) static uint32_t (*const finaruvom_linked_layout)(void) = finaruvom_layout_2;
 
 // The SHA-256 digest of at most 65,536 bytes, and 0; of more, zeros and 2.
-// digest has 32 bytes; what stands there does not matter.
+// Duties: bytes not null, shared; digest not null, 32 bytes, alone; stack FINARUVOM_STACK_HASH.
 FINARUVOM_CALL uint32_t finaruvom_hash(const uint8_t *bytes, size_t n, uint8_t digest[FINARUVOM_DIGEST_SIZE]);
 
 // The LMS signature check: verdict and chain steps, and 0; of a message of more than 1,024 bytes no, 0 and 2.
-// *verdict holds false or true before the call (a byte of 0 or 1, so it is given a value first), and after it.
+// Duties: key, message, signature not null, shared; verdict and steps not null, alone, each aligned as its type, and *verdict holds false or true, a byte of
+// 0 or 1, already before the call: give it a value first; stack FINARUVOM_STACK_CHECK.
 FINARUVOM_CALL uint32_t finaruvom_check(const uint8_t *key, size_t key_n, const uint8_t *message, size_t message_n, const uint8_t *signature,
                                         size_t signature_n, bool *verdict, uint32_t *steps);
 
 // Makes any lent book fresh, with the id, and answers 0; an id that is not 16 bytes long gives 2 and keeps every value.
-// The book is written; what stands there does not matter.
+// Duties: book not null, aligned, alone; id not null, shared; stack FINARUVOM_STACK_OPEN.
 FINARUVOM_CALL uint32_t finaruvom_open(struct finaruvom_book *book, const uint8_t *id, size_t id_n);
 
-// Carries a command out on the lent book, or refuses it and keeps every value. The book is written, also where it is refused.
+// Carries a command out on the lent book, or refuses it and keeps every value. The book is written also where it is refused, with what stood there.
+// Duties: book not null, aligned, alone; command not null, shared; stack FINARUVOM_STACK_APPLY.
 FINARUVOM_CALL struct finaruvom_answer finaruvom_apply(struct finaruvom_book *book, const uint8_t *command, size_t command_n);
 
-// A reading of channel n: 99 and zeros of an unsound book, 4 and zeros for n from 64 on. The book is only read.
+// A reading of channel n: 99 and zeros of an unsound book, 4 and zeros for n from 64 on.
+// Duties: book not null, aligned, shared; stack FINARUVOM_STACK_READ.
 FINARUVOM_CALL struct finaruvom_reading finaruvom_read(const struct finaruvom_book *book, size_t n);
 
-// The channel in status 4 or 5 with the smallest deadline, the lower number where equal; none of an unsound book. The book is only read.
+// The channel in status 4 or 5 with the smallest deadline, the lower number where equal; none of an unsound book.
+// Duties: book not null, aligned, shared; stack FINARUVOM_STACK_DUE.
 FINARUVOM_CALL struct finaruvom_found finaruvom_due(const struct finaruvom_book *book);
 
 // Runs a journal's commands on the lent book and writes a line for each; later lines keep their content. It stops at the first of these: no
 // bytes left (cause 0), no line left (13), first byte unknown (1), fewer bytes than the command needs (2).
-// Book and lines are written, also where all is refused; lines point to lines_n lines, of which there may be 0.
+// Duties: book not null, aligned, alone; commands not null, shared; lines not null, lines_n of them, aligned, alone; stack FINARUVOM_STACK_RUN.
 FINARUVOM_CALL struct finaruvom_ran finaruvom_run(struct finaruvom_book *book, const uint8_t *commands, size_t commands_n,
                                                   struct finaruvom_line *lines, size_t lines_n);
 
