@@ -1,8 +1,8 @@
 // The channel arbiter for C (C11) and C++ (C++11) on x86-64 Linux: link libfinaruvom.a, which `rt staticlib finaruvom` makes.
 // The customer is the paper's café, the merchant its bakery. What the bytes of a command mean stands in docs/FORMAT.md.
 //
-// Nothing is asked of the values that a caller lends: any bytes may stand in a book or in a command. What is asked of him stands under "Duties" at each
-// function, in these words:
+// Any bytes may stand in a book and in a command: nothing is asked of them. What is asked of the caller stands under "Duties" at each function, in these
+// words:
 // - not null: the pointer is not NULL, not even where the length beside it is 0 (lend any object then), and as many bytes stand there as the length says;
 // - aligned: the address is a multiple of 8, as that of a variable of the type is, and what malloc gives;
 // - alone: during the call nobody else reads or writes it, and it overlaps nothing else that the call is lent;

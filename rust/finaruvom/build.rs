@@ -18,7 +18,7 @@ fn main() {
     println!("cargo:rustc-link-lib=static=finaruvom");
 }
 
-/// The folder of the archive: the one in FINARUVOM_LIB, or the repository's own.
+/// The folder of the archive: the one in `FINARUVOM_LIB`, or the repository's own.
 fn folder() -> PathBuf {
     match env::var_os("FINARUVOM_LIB") {
         Some(named) => PathBuf::from(named),

@@ -104,10 +104,10 @@ static struct buffer command(void) {
 
 static void call_hash(void) {
     static const size_t lengths[] = {0, 1, 55, 56, 63, 64, 65, 1000, 65535, 65536, 65537};
-    struct buffer bytes = lend(lengths[below(11)]), digest = lend(32);
+    struct buffer bytes = lend(lengths[below(11)]), digest = lend(FINARUVOM_DIGEST_SIZE);
     seal(&bytes);
-    uint8_t refusal = finaruvom_hash(bytes.bytes, bytes.n, digest.bytes);
-    require(refusal == (bytes.n > 65536 ? 2 : 0), "hash: refusal");
+    uint32_t refusal = finaruvom_hash(bytes.bytes, bytes.n, digest.bytes);
+    require(refusal == (bytes.n > 65536 ? FINARUVOM_LENGTH : FINARUVOM_ACCEPTED), "hash: refusal");
     give_back(bytes);
     give_back(digest);
 }
@@ -117,7 +117,8 @@ static void call_check(void) {
     static const size_t messages[] = {0, 1, 19, 67, 1023, 1024, 1025};
     static const size_t signatures[] = {0, 4, 1451, 1452, 1452, 1452, 1453};
     struct buffer key = lend(keys[below(7)]), message = lend(messages[below(7)]);
-    struct buffer signature = lend(signatures[below(7)]), verdict = lend(1), steps = lend(4);
+    struct buffer signature = lend(signatures[below(7)]), verdict = lend(sizeof(bool)), steps = lend(sizeof(uint32_t));
+    verdict.bytes[0] &= 1;
     if (key.n >= 8 && signature.n >= 1132) {
         memcpy(key.bytes, "\0\0\0\6\0\0\0\4", 8);
         memcpy(signature.bytes, "\0\0\1\2\0\0\0\4", 8);
@@ -126,9 +127,9 @@ static void call_check(void) {
     seal(&key);
     seal(&message);
     seal(&signature);
-    uint8_t refusal = finaruvom_check(key.bytes, key.n, message.bytes, message.n, signature.bytes, signature.n,
-                                      (bool *)verdict.bytes, (uint32_t *)steps.bytes);
-    require(refusal == (message.n > 1024 ? 2 : 0), "check: refusal");
+    uint32_t refusal = finaruvom_check(key.bytes, key.n, message.bytes, message.n, signature.bytes, signature.n,
+                                       (bool *)verdict.bytes, (uint32_t *)steps.bytes);
+    require(refusal == (message.n > 1024 ? FINARUVOM_LENGTH : FINARUVOM_ACCEPTED), "check: refusal");
     require(verdict.bytes[0] <= 1, "check: verdict");
     give_back(key);
     give_back(message);
@@ -138,17 +139,19 @@ static void call_check(void) {
 }
 
 static void call_open(struct finaruvom_book *book) {
-    struct buffer id = lend(below(4) == 0 ? below(40) : 16);
+    struct buffer id = lend(below(4) == 0 ? below(40) : FINARUVOM_ID_SIZE);
     seal(&id);
-    require(finaruvom_open(book, id.bytes, id.n) == (id.n == 16 ? 0 : 2), "open: refusal");
+    uint32_t refusal = finaruvom_open(book, id.bytes, id.n);
+    require(refusal == (id.n == FINARUVOM_ID_SIZE ? FINARUVOM_ACCEPTED : FINARUVOM_LENGTH), "open: refusal");
     give_back(id);
 }
 
 static void call_apply(struct finaruvom_book *book) {
     struct buffer string = command();
     seal(&string);
-    uint8_t refusal = finaruvom_apply(book, string.bytes, string.n).refusal;
-    require(refusal <= 12 || refusal == 99, "apply: refusal");
+    struct finaruvom_answer answer = finaruvom_apply(book, string.bytes, string.n);
+    require(answer.refusal <= FINARUVOM_CUSTOMER || answer.refusal == FINARUVOM_UNSOUND, "apply: refusal");
+    require(answer.refusal == FINARUVOM_ACCEPTED || (answer.customer == 0 && answer.merchant == 0), "apply: paid");
     give_back(string);
 }
 
@@ -159,16 +162,18 @@ static void call_run(struct finaruvom_book *book) {
     struct finaruvom_line *first = (struct finaruvom_line *)lines.bytes;
     struct finaruvom_ran ran = finaruvom_run(book, string.bytes, string.n, first, lines_n);
     require(ran.lines <= lines_n && ran.used <= string.n, "run: lines or bytes");
-    require(ran.cause <= 2 || ran.cause == 13, "run: cause");
+    require(ran.cause <= FINARUVOM_CUT_SHORT || ran.cause == FINARUVOM_NO_LINE, "run: cause");
     give_back(string);
     give_back(lines);
 }
 
 static void call_read(const struct finaruvom_book *book) {
     struct finaruvom_reading reading = finaruvom_read(book, below(2) == 0 ? below(66) : (size_t)number());
-    require(reading.refusal == 0 || reading.refusal == 4 || reading.refusal == 99, "read: refusal");
+    uint32_t refusal = reading.refusal;
+    require(refusal == FINARUVOM_ACCEPTED || refusal == FINARUVOM_CHANNEL || refusal == FINARUVOM_UNSOUND, "read: refusal");
+    require(reading.status <= FINARUVOM_CLOSED, "read: status");
     struct finaruvom_found found = finaruvom_due(book);
-    require(found.some ? found.channel < 64 : found.channel == 0, "due: channel");
+    require(found.some ? found.channel < FINARUVOM_CHANNELS : found.channel == 0, "due: channel");
 }
 
 // Some calls on one book, which is opened, or random bytes, or opened and then changed in one place.
@@ -197,6 +202,7 @@ int main(int argc, char **argv) {
     time_t end = time(NULL) + atol(argv[1]);
     round_seed = argc > 2 ? strtoull(argv[2], NULL, 10) : 1;
     __asan_set_death_callback(tell_seed);
+    require(finaruvom_version().layout == FINARUVOM_LAYOUT, "version: layout");
     uint64_t rounds = 0;
     do {
         state = round_seed;

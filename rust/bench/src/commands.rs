@@ -4,7 +4,7 @@ use differential::bridge::to_oracle;
 use differential::plan::Plan;
 use differential::wallet::Wallet;
 use finaruvom::raw::{Channel, Party};
-use finaruvom::Book;
+use finaruvom::{Book, Cents, Seconds};
 use oracle::digest;
 
 const ID: [u8; 16] = [9; 16];
@@ -12,7 +12,7 @@ const CLOCK: u64 = 1_000;
 /// The channel that the commands name, the last one to be looked at.
 const N: u16 = 63;
 /// The kinds of command, each with the status and the deadline of its channel.
-const ROWS: [(u8, u8, u64); 11] = [
+const ROWS: [(u8, u32, u64); 11] = [
     (0x01, 3, 0),
     (0x02, 0, 0),
     (0x03, 1, 0),
@@ -32,7 +32,7 @@ pub fn commands() {
     for (opcode, status, deadline) in ROWS {
         let book = book(&wallet, status, deadline);
         let command = command(&mut wallet, opcode);
-        assert_eq!(book.clone().apply(&command).refusal, 0);
+        assert_eq!(book.clone().apply(&command).refused(), None);
         time(
             &format!("{opcode:02X} accepted in status {status}"),
             &book,
@@ -52,26 +52,26 @@ fn time(name: &str, book: &Book, command: &[u8]) {
 }
 
 /// A book whose channels are closing, but for the one named.
-pub fn book(wallet: &Wallet, status: u8, deadline: u64) -> Book {
+pub fn book(wallet: &Wallet, status: u32, deadline: u64) -> Book {
     let party = |party, deposit| Party {
         key: wallet.key(party),
-        deposit,
+        deposit: Cents(deposit),
     };
     let closing = Channel {
         status: 5,
         customer: party(0, 900),
         merchant: party(1, 100),
         delay: 3_600,
-        deadline: CLOCK + 3_600,
-        kept: 700,
+        deadline: Seconds(CLOCK + 3_600),
+        kept: Cents(700),
         lock: digest(&wallet.secrets()[0]),
     };
     let opened = Book::open(&ID).expect("16 bytes are an id");
-    let mut raw = *opened.as_raw();
-    raw.clock = CLOCK;
+    let mut raw = opened.as_raw().clone();
+    raw.clock = Seconds(CLOCK);
     raw.channels = [closing; 64];
     let named = &mut raw.channels[usize::from(N)];
-    (named.status, named.deadline) = (status, deadline);
+    (named.status, named.deadline) = (status, Seconds(deadline));
     Book::from_raw(raw)
 }
 

@@ -3,6 +3,7 @@ use crate::bridge::mark;
 use crate::rng::Rng;
 use crate::wallet::Wallet;
 use finaruvom::raw::{Book, Channel, Party};
+use finaruvom::{Cents, Seconds};
 use oracle::{digest, LARGEST, LONGEST_DELAY, SHORTEST_DELAY};
 
 const DELAYS: [u32; 8] = [
@@ -16,15 +17,31 @@ const DELAYS: [u32; 8] = [
     u32::MAX,
 ];
 
+/// Statuses that are none, but for 5. Some would be one if a part of their bits were dropped.
+const ODD_STATUSES: [u32; 12] = [
+    5,
+    7,
+    8,
+    255,
+    256,
+    259,
+    261,
+    0x0001_0004,
+    0x0300_0000,
+    0x8000_0005,
+    u32::MAX - 250,
+    u32::MAX,
+];
+
 /// A book with any values in all fields.
 pub fn wild_book(rng: &mut Rng, wallet: &Wallet) -> Book {
     let clock = rng.edge();
-    let channel = std::array::from_fn(|_| wild_channel(rng, wallet, clock));
+    let channels = std::array::from_fn(|_| wild_channel(rng, wallet, clock));
     Book {
         mark: if rng.one_in(2) { mark() } else { rng.edge() },
         id: rng.array(),
-        clock,
-        channels: channel,
+        clock: Seconds(clock),
+        channels,
     }
 }
 
@@ -39,7 +56,7 @@ pub fn sound_book(rng: &mut Rng, wallet: &Wallet) -> Book {
     Book {
         mark: mark(),
         id: [rng.pick(&[0, 0xff]); 16],
-        clock,
+        clock: Seconds(clock),
         channels,
     }
 }
@@ -51,7 +68,7 @@ pub fn touched_book(rng: &mut Rng, wallet: &Wallet) -> Book {
         let at = rng.below(64);
         match rng.below(8) {
             0 => book.mark ^= 1 << rng.below(64),
-            1 => book.clock = rng.edge(),
+            1 => book.clock = Seconds(rng.edge()),
             _ => touch(rng, &mut book.channels[at]),
         }
     }
@@ -60,28 +77,29 @@ pub fn touched_book(rng: &mut Rng, wallet: &Wallet) -> Book {
 
 /// Changes one value of a channel.
 fn touch(rng: &mut Rng, channel: &mut Channel) {
-    let total = channel
-        .customer
-        .deposit
-        .wrapping_add(channel.merchant.deposit);
+    let [customer, merchant] = [channel.customer.deposit.0, channel.merchant.deposit.0];
+    let total = customer.wrapping_add(merchant);
     match rng.below(6) {
-        0 => channel.status = rng.pick(&[5, 7, 8, 255]),
+        0 => channel.status = rng.pick(&ODD_STATUSES),
         1 => channel.delay = rng.pick(&DELAYS),
-        2 => channel.customer.deposit = rng.edge(),
-        3 => channel.merchant.deposit = rng.edge(),
-        4 => channel.merchant.deposit = 0u64.wrapping_sub(channel.customer.deposit),
-        _ => channel.kept = rng.pick(&[total, total.wrapping_add(1), u64::MAX]),
+        2 => channel.customer.deposit = Cents(rng.edge()),
+        3 => channel.merchant.deposit = Cents(rng.edge()),
+        4 => channel.merchant.deposit = Cents(0u64.wrapping_sub(customer)),
+        _ => channel.kept = Cents(rng.pick(&[total, total.wrapping_add(1), u64::MAX])),
     }
 }
 
 fn wild_channel(rng: &mut Rng, wallet: &Wallet, clock: u64) -> Channel {
     Channel {
-        status: rng.pick(&[0, 1, 2, 3, 4, 5, 6, 7, 255]),
+        status: match rng.below(9) {
+            status @ 0..=6 => status as u32,
+            _ => rng.pick(&ODD_STATUSES),
+        },
         customer: party(rng, wallet),
         merchant: party(rng, wallet),
         delay: rng.pick(&DELAYS),
-        deadline: deadline(rng, clock),
-        kept: rng.edge(),
+        deadline: Seconds(deadline(rng, clock)),
+        kept: Cents(rng.edge()),
         lock: lock(rng, wallet),
     }
 }
@@ -92,12 +110,12 @@ fn sound_channel(rng: &mut Rng, wallet: &Wallet, clock: u64) -> Channel {
     channel.status = rng.pick(&[0, 1, 2, 3, 3, 4, 4, 5, 5, 6]);
     if channel.status != 0 {
         channel.delay = channel.delay.clamp(SHORTEST_DELAY, LONGEST_DELAY);
-        channel.customer.deposit = channel.customer.deposit.min(LARGEST);
-        let room = LARGEST - channel.customer.deposit;
-        channel.merchant.deposit = channel.merchant.deposit.min(room);
+        let customer = channel.customer.deposit.0.min(LARGEST);
+        let merchant = channel.merchant.deposit.0.min(LARGEST - customer);
+        channel.customer.deposit = Cents(customer);
+        channel.merchant.deposit = Cents(merchant);
         if channel.status == 5 {
-            let total = channel.customer.deposit + channel.merchant.deposit;
-            channel.kept = channel.kept.min(total);
+            channel.kept = channel.kept.min(Cents(customer + merchant));
         }
     }
     channel
@@ -110,11 +128,11 @@ fn party(rng: &mut Rng, wallet: &Wallet) -> Party {
             0 => rng.array(),
             _ => wallet.key(rng.below(Wallet::PARTIES)),
         },
-        deposit: match rng.below(4) {
+        deposit: Cents(match rng.below(4) {
             0 => rng.edge(),
             1 => 0,
             _ => rng.pick(&[1, 100, 900, 1 << 62]),
-        },
+        }),
     }
 }
 

@@ -1,6 +1,11 @@
-//! The library's book as the oracle's and back, field by field.
-use finaruvom::{raw, Book};
+//! The library's values as the oracle's and back, field by field.
+use finaruvom::raw::{self, Party};
+use finaruvom::{Book, Cents, Payments, Refusal, Seconds, Status};
 use std::sync::OnceLock;
+
+/// The oracle's status of a channel whose own status the oracle cannot hold. It is none of the
+/// paper's.
+const OTHER: u8 = u8::MAX;
 
 /// The mark that every opening writes.
 pub fn mark() -> u64 {
@@ -13,56 +18,123 @@ pub fn mark() -> u64 {
     })
 }
 
-/// The oracle's book with the same values.
+/// The oracle's book with the same values, as far as it can hold them.
 pub fn to_oracle(raw: &raw::Book) -> oracle::Book {
-    let party = |party: &raw::Party| oracle::Party {
+    let party = |party: &Party| oracle::Party {
         key: party.key,
-        deposit: party.deposit,
+        deposit: party.deposit.0,
     };
     oracle::Book {
         marked: raw.mark == mark(),
         id: raw.id,
-        clock: raw.clock,
+        clock: raw.clock.0,
         channels: raw.channels.map(|channel| oracle::Channel {
-            status: channel.status,
+            status: u8::try_from(channel.status).unwrap_or(OTHER),
             customer: party(&channel.customer),
             merchant: party(&channel.merchant),
             delay: channel.delay,
-            deadline: channel.deadline,
-            kept: channel.kept,
+            deadline: channel.deadline.0,
+            kept: channel.kept.0,
             lock: channel.lock,
         }),
     }
 }
 
-/// The library's book with the same values and this mark.
-pub fn to_raw(book: &oracle::Book, mark: u64) -> raw::Book {
-    let party = |party: &oracle::Party| raw::Party {
+/// The library's book with the same values. A mark or a status that the oracle cannot hold is the
+/// one before: only an opening changes it.
+pub fn to_raw(book: &oracle::Book, before: &raw::Book) -> raw::Book {
+    let party = |party: &oracle::Party| Party {
         key: party.key,
-        deposit: party.deposit,
+        deposit: Cents(party.deposit),
     };
-    raw::Book {
-        mark,
-        id: book.id,
-        clock: book.clock,
-        channels: book.channels.map(|channel| raw::Channel {
-            status: channel.status,
+    let channel = |n: usize| {
+        let channel = &book.channels[n];
+        raw::Channel {
+            status: match channel.status {
+                OTHER => before.channels[n].status,
+                status => u32::from(status),
+            },
             customer: party(&channel.customer),
             merchant: party(&channel.merchant),
             delay: channel.delay,
-            deadline: channel.deadline,
-            kept: channel.kept,
+            deadline: Seconds(channel.deadline),
+            kept: Cents(channel.kept),
             lock: channel.lock,
-        }),
+        }
+    };
+    raw::Book {
+        mark: if book.marked { mark() } else { before.mark },
+        id: book.id,
+        clock: Seconds(book.clock),
+        channels: std::array::from_fn(channel),
     }
 }
 
 /// The library's answer with the same values.
 pub fn to_answer(answer: &oracle::Answer) -> raw::Answer {
     raw::Answer {
-        refusal: answer.refusal,
-        customer: answer.customer,
-        merchant: answer.merchant,
+        refusal: u32::from(answer.refusal),
+        customer: Cents(answer.customer),
+        merchant: Cents(answer.merchant),
         steps: answer.steps,
+    }
+}
+
+/// The library's line with the same values.
+pub fn to_line(answer: &oracle::Answer) -> raw::Line {
+    raw::Line {
+        answer: to_answer(answer),
+    }
+}
+
+/// The library's reading with the same values.
+pub fn to_reading(reading: &oracle::Reading) -> raw::Reading {
+    raw::Reading {
+        refusal: u32::from(reading.refusal),
+        status: u32::from(reading.status),
+        total: Cents(reading.total),
+        held: Cents(reading.held),
+        deadline: Seconds(reading.deadline),
+        kept: Cents(reading.kept),
+        lock: reading.lock,
+    }
+}
+
+/// What the wrapper makes of the answer.
+pub fn to_paid(answer: &oracle::Answer) -> Result<Payments, Refusal> {
+    checked(answer.refusal)?;
+    Ok(Payments {
+        customer: Cents(answer.customer),
+        merchant: Cents(answer.merchant),
+    })
+}
+
+/// What the wrapper makes of the reading.
+pub fn to_read(reading: &oracle::Reading) -> Result<finaruvom::Reading, Refusal> {
+    checked(reading.refusal)?;
+    Ok(finaruvom::Reading {
+        status: Status::try_from(reading.status).expect("a status of the paper"),
+        total: Cents(reading.total),
+        held: Cents(reading.held),
+        deadline: Seconds(reading.deadline),
+        kept: Cents(reading.kept),
+        lock: reading.lock,
+    })
+}
+
+/// Nothing for 0, else the refusal with this number.
+fn checked(refusal: u8) -> Result<(), Refusal> {
+    match refusal {
+        0 => Ok(()),
+        _ => Err(Refusal::try_from(refusal).expect("a refusal of the paper")),
+    }
+}
+
+/// The library's end of a run with the same values.
+pub fn to_ran(ran: &oracle::Ran) -> raw::Ran {
+    raw::Ran {
+        lines: ran.lines,
+        used: ran.used,
+        cause: u64::from(ran.cause),
     }
 }

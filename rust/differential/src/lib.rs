@@ -9,7 +9,7 @@ mod options;
 mod pair;
 mod parts;
 pub mod plan;
-mod rng;
+pub mod rng;
 mod run;
 mod spoil;
 mod tally;

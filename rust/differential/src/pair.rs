@@ -2,10 +2,10 @@
 
 mod journal;
 
-use crate::bridge::{mark, to_answer, to_oracle, to_raw};
+use crate::bridge::{to_answer, to_oracle, to_paid, to_raw};
 use crate::kinds::kind;
 use crate::tally::Tally;
-use finaruvom::{raw, Book};
+use finaruvom::{raw, Answer, Book, Refusal};
 
 /// Nothing, or what differs.
 pub type Outcome = Result<(), String>;
@@ -31,13 +31,13 @@ impl Pair {
         let library = Book::open(&id).map_err(|refusal| refusal.to_string())?;
         let oracle = oracle::Book::fresh(id);
         let pair = Pair { library, oracle };
-        pair.agree(mark())?;
+        pair.agree(pair.library.as_raw())?;
         Ok(pair)
     }
 
     /// Opens both.
     pub fn open(&mut self, id: &[u8], tally: &mut Tally) -> Outcome {
-        let before = self.library.as_raw().mark;
+        let before = self.library.as_raw().clone();
         let library = match self.library.reopen(id) {
             Ok(()) => 0,
             Err(refusal) => refusal.number(),
@@ -45,12 +45,12 @@ impl Pair {
         let oracle = self.oracle.open(id);
         tally.compared("openings");
         same("opening", &library, &oracle)?;
-        self.agree(if oracle == 0 { mark() } else { before })
+        self.agree(&before)
     }
 
     /// Gives both a command, and the answer.
     pub fn apply(&mut self, command: &[u8], tally: &mut Tally) -> Result<u8, String> {
-        let mark = self.library.as_raw().mark;
+        let former = self.library.as_raw().clone();
         let before = status(&self.oracle, command);
         let library = self.library.apply(command);
         let oracle = oracle::apply(&mut self.oracle, command);
@@ -66,26 +66,47 @@ impl Pair {
         {
             tally.moved(command, before, after);
         }
-        same("answer", &library, &to_answer(&oracle))
-            .and_then(|()| self.agree(mark))
+        same_answer(&library, &oracle)
+            .and_then(|()| self.agree(&former))
             .map_err(|text| format!("{text}\ncommand: {}", hex(command)))?;
         Ok(oracle.refusal)
     }
 
-    /// Whether all values of the books are equal.
-    pub fn agree(&self, mark: u64) -> Outcome {
-        let (library, oracle) = (self.library.as_raw(), to_raw(&self.oracle, mark));
-        if *library == oracle {
+    /// Whether all bytes of the books are equal, the library's book having been this one before.
+    pub fn agree(&self, before: &raw::Book) -> Outcome {
+        let oracle = Book::from_raw(to_raw(&self.oracle, before));
+        if self.library.as_bytes() == oracle.as_bytes() {
             return Ok(());
         }
+        let (library, oracle) = (self.library.as_raw(), oracle.as_raw());
         same("mark", &library.mark, &oracle.mark)?;
         same("id", &library.id, &oracle.id)?;
         same("clock", &library.clock, &oracle.clock)?;
         for (n, channel) in library.channels.iter().enumerate() {
             same(&format!("channel {n}"), channel, &oracle.channels[n])?;
         }
-        same("book", library, &oracle)
+        Err("equal values that are not equal bytes".to_string())
     }
+
+    /// Whether the stored bytes give the book back, or are refused where it is unsound.
+    pub fn stored(&self, tally: &mut Tally) -> Outcome {
+        let stored = self.library.as_bytes();
+        let (what, expected) = match self.oracle.sound() {
+            true => ("books restored", Ok(self.library.clone())),
+            false => ("books not restored", Err(Refusal::Unsound)),
+        };
+        tally.compared(what);
+        same("book restored", &Book::from_bytes(stored), &expected)
+    }
+}
+
+/// Whether an answer is the oracle's, as it is and as the wrapper tells it.
+fn same_answer(library: &Answer, oracle: &oracle::Answer) -> Outcome {
+    let paid = to_paid(oracle);
+    same("answer", library.as_raw(), &to_answer(oracle))?;
+    same("paid", &library.paid(), &paid)?;
+    same("refused", &library.refused(), &paid.err())?;
+    same("steps", &library.steps(), &oracle.steps)
 }
 
 /// The status of the channel that a command names.

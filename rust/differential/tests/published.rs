@@ -1,5 +1,6 @@
 //! The published journals and signatures through the library alone.
-use finaruvom::{Answer, Book, Line, Verdict};
+use finaruvom::raw::Answer;
+use finaruvom::{Book, Cause, Line, Verdict};
 use std::collections::HashMap;
 use std::fmt::Write;
 use stored::journals;
@@ -31,7 +32,7 @@ fn compare(input: &[u8], text: &str) {
             customer,
             merchant,
             steps,
-        } = book.apply(command);
+        } = *book.apply(command).as_raw();
         let line = format!("{number} {refusal} {customer} {merchant} {steps}");
         assert_eq!(Some(line.as_str()), lines.next());
     }
@@ -61,11 +62,11 @@ fn statement(input: &[u8]) -> String {
                 customer,
                 merchant,
                 steps,
-            } = line.answer;
+            } = *line.answer.as_raw();
             writeln!(text, "{number} {refusal} {customer} {merchant} {steps}").unwrap();
         }
-        if ran.cause != 13 {
-            writeln!(text, "end {used} {}", ran.cause).unwrap();
+        if ran.cause != Cause::NoLine {
+            writeln!(text, "end {used} {}", ran.cause.number()).unwrap();
             return text;
         }
     }

@@ -1,41 +1,121 @@
 //! The book and the commands on it.
-use crate::raw::{self, Answer};
+use crate::answer::Answer;
+use crate::linked::same_layout;
+use crate::raw;
 use crate::refusal::Refusal;
+use crate::sizes::{CHANNELS, DIGEST_SIZE, ID_SIZE, KEY_SIZE};
+use crate::units::{Cents, Seconds};
 
 /// A book of 64 channels.
+///
+/// ```
+/// use finaruvom::command::{Establish, FundCustomer};
+/// use finaruvom::{Book, Cents, Status};
+/// # use finaruvom::Refusal;
+/// # let [customer_key, merchant_key] = [1, 2].map(|byte| {
+/// #     let mut key = [byte; 56];
+/// #     key[..8].copy_from_slice(&[0, 0, 0, 6, 0, 0, 0, 4]);
+/// #     key
+/// # });
+///
+/// let mut book = Book::open(&[7; 16])?;
+/// let establish = Establish {
+///     channel: 0,
+///     customer_key,
+///     merchant_key,
+///     customer: Cents(900),
+///     merchant: Cents(100),
+///     delay: 3_600,
+/// };
+/// assert_eq!(book.apply(&establish.command()).refused(), None);
+/// let fund = FundCustomer { channel: 0, amount: Cents(900) };
+/// assert_eq!(book.apply(&fund.command()).refused(), None);
+/// let reading = book.read(0)?;
+/// assert_eq!(reading.status, Status::AwaitingMerchant);
+/// assert_eq!(reading.held, Cents(900));
+/// # Ok::<(), Refusal>(())
+/// ```
+///
+/// A second book is made by `clone` alone. This does not compile:
+///
+/// ```compile_fail,E0382
+/// let book = finaruvom::Book::open(&[7; 16]).unwrap();
+/// let other = book;
+/// assert_eq!(other, book);
+/// ```
+#[repr(transparent)]
 #[derive(Clone, Debug, PartialEq, Eq)]
 pub struct Book {
     pub(crate) raw: raw::Book,
 }
 
 impl Book {
-    /// A fresh book with this id; an id that is not 16 bytes long is [`Refusal::LENGTH`].
+    /// A fresh book with this id.
+    ///
+    /// # Errors
+    ///
+    /// [`Refusal::Length`] where the id is not [`ID_SIZE`] bytes long.
     pub fn open(id: &[u8]) -> Result<Book, Refusal> {
         let mut book = Book::from_raw(UNOPENED);
         book.reopen(id)?;
         Ok(book)
     }
 
-    /// Makes this book fresh, whatever it holds; a refused id keeps every value.
+    /// Makes this book fresh, whatever it holds.
+    ///
+    /// # Errors
+    ///
+    /// [`Refusal::Length`] where the id is not [`ID_SIZE`] bytes long; the book keeps every value.
     pub fn reopen(&mut self, id: &[u8]) -> Result<(), Refusal> {
         // SAFETY: the book is lent exclusively and the slice is readable.
-        let number = unsafe { raw::finaruvom_open(&mut self.raw, id.as_ptr(), id.len()) };
+        let number = unsafe { raw::finaruvom_open(&raw mut self.raw, id.as_ptr(), id.len()) };
         Refusal::checked(number)
     }
 
     /// Carries a command out, or refuses it and keeps every value.
+    ///
+    /// ```
+    /// use finaruvom::command::SetClock;
+    /// use finaruvom::{Book, Refusal, Seconds};
+    ///
+    /// let mut book = Book::open(&[7; 16])?;
+    /// let answer = book.apply(&SetClock { time: Seconds(1_000) }.command());
+    /// assert_eq!(answer.refused(), None);
+    /// let answer = book.apply(&SetClock { time: Seconds(999) }.command());
+    /// assert_eq!(answer.refused(), Some(Refusal::Time));
+    /// assert_eq!(book.clock(), Seconds(1_000));
+    /// # Ok::<(), Refusal>(())
+    /// ```
     pub fn apply(&mut self, command: &[u8]) -> Answer {
         // SAFETY: the book is lent exclusively and the slice is readable.
-        unsafe { raw::finaruvom_apply(&mut self.raw, command.as_ptr(), command.len()) }
+        let answer =
+            unsafe { raw::finaruvom_apply(&raw mut self.raw, command.as_ptr(), command.len()) };
+        Answer::of_library(answer)
     }
 
-    /// A stored book, as it was; any values may stand in it.
+    /// The id, a part of every signed message.
+    #[must_use]
+    pub const fn id(&self) -> &[u8; ID_SIZE] {
+        &self.raw.id
+    }
+
+    /// The clock.
+    #[must_use]
+    pub const fn clock(&self) -> Seconds {
+        self.raw.clock
+    }
+
+    /// A book with these values. Any may stand in it: an unsound one is refused with
+    /// [`Refusal::Unsound`].
+    #[must_use]
     pub fn from_raw(raw: raw::Book) -> Book {
+        same_layout();
         Book { raw }
     }
 
-    /// The values to store.
-    pub fn as_raw(&self) -> &raw::Book {
+    /// The values.
+    #[must_use]
+    pub const fn as_raw(&self) -> &raw::Book {
         &self.raw
     }
 }
@@ -43,22 +123,22 @@ impl Book {
 /// Zeros, for an opening to write over.
 const UNOPENED: raw::Book = {
     let party = raw::Party {
-        key: [0; 56],
-        deposit: 0,
+        key: [0; KEY_SIZE],
+        deposit: Cents(0),
     };
     let channel = raw::Channel {
-        status: 0,
         customer: party,
         merchant: party,
+        deadline: Seconds(0),
+        kept: Cents(0),
         delay: 0,
-        deadline: 0,
-        kept: 0,
-        lock: [0; 32],
+        status: 0,
+        lock: [0; DIGEST_SIZE],
     };
     raw::Book {
         mark: 0,
-        id: [0; 16],
-        clock: 0,
-        channels: [channel; 64],
+        id: [0; ID_SIZE],
+        clock: Seconds(0),
+        channels: [channel; CHANNELS],
     }
 };

@@ -2,33 +2,62 @@
 //! makes.
 //!
 //! A customer (the paper's café) and a merchant (its bakery) pay deposits into a channel of a
-//! [`Book`]; commands, each a string of bytes, establish, fund, close, dispute and settle it. Every
-//! command gets an [`Answer`].
+//! [`Book`]. Commands, each a string of bytes that [`command`] makes, establish, fund, close,
+//! dispute and settle it. Every command gets an [`Answer`].
 //!
 //! ```
-//! use finaruvom::{Book, Refusal};
+//! use finaruvom::command::{SetClock, Settle};
+//! use finaruvom::{Book, Cents, Payments, Refusal, Seconds};
 //!
 //! let mut book = Book::open(&[0; 16])?;
-//! // Command 01 sets the clock to 1,000.
-//! let answer = book.apply(&[0x01, 0, 0, 0, 0, 0, 0, 0x03, 0xe8]);
-//! assert_eq!(answer.refused(), None);
-//! assert_eq!(book.as_raw().clock, 1_000);
-//! // Command 0A settles channel 0, which is unused.
-//! let answer = book.apply(&[0x0a, 0, 0]);
-//! assert_eq!(answer.refused(), Some(Refusal::STATUS));
-//! assert_eq!(answer.refusal, 5);
+//! let nothing = Payments { customer: Cents(0), merchant: Cents(0) };
+//! let answer = book.apply(&SetClock { time: Seconds(1_000) }.command());
+//! assert_eq!(answer.paid(), Ok(nothing));
+//! assert_eq!(book.clock(), Seconds(1_000));
+//!
+//! // Channel 0 is unused.
+//! let answer = book.apply(&Settle { channel: 0 }.command());
+//! assert_eq!(answer.paid(), Err(Refusal::Status));
 //! # Ok::<(), Refusal>(())
 //! ```
-#![warn(missing_docs)]
+//!
+//! `examples/life.rs` goes through the life of three channels, with real signatures.
+//!
+//! The crate does without the standard library and allocates nothing. A program that has no C
+//! library brings `memcpy` and `memset` for the archive. For a call of the library 32 KiB of stack
+//! are enough (the header says it of each), beside the books that the program holds there.
+#![no_std]
+#![deny(missing_docs)]
 
+#[cfg(not(all(
+    target_arch = "x86_64",
+    target_os = "linux",
+    target_pointer_width = "64"
+)))]
+compile_error!("libfinaruvom.a is made for x86-64 Linux alone");
+
+mod answer;
 mod book;
+pub mod command;
 mod journal;
+mod linked;
+mod numbered;
 pub mod raw;
+mod reading;
 mod refusal;
 mod signature;
+mod sizes;
+mod stored;
+mod units;
 
+pub use answer::{Answer, Payments};
 pub use book::Book;
-pub use raw::Answer;
-pub use raw::{Line, Ran, Reading};
+pub use journal::{Cause, Line, Ran};
+pub use linked::version;
+pub use numbered::UnknownNumber;
+pub use raw::Versions;
+pub use reading::{Reading, Status};
 pub use refusal::Refusal;
 pub use signature::{check, hash, Verdict};
+pub use sizes::{BOOK_SIZE, CHANNELS, DIGEST_SIZE, ID_SIZE, KEY_SIZE, LAYOUT, SIGNATURE_SIZE};
+pub use units::{Cents, Seconds};

@@ -1,88 +1,144 @@
-//! What the archive exports, as `include/finaruvom.h` declares it.
+//! What the archive exports, as `include/finaruvom.h` declares it. The header says what a caller
+//! owes; the functions of the crate itself take care of that.
 
-mod journal;
+mod calls;
+mod layout;
 
-pub use journal::*;
+use crate::sizes::{CHANNELS, DIGEST_SIZE, ID_SIZE, KEY_SIZE};
+use crate::units::{Cents, Seconds};
 
-/// One side of a channel: its LMS key and the deposit agreed, in cents.
+pub use calls::*;
+
+/// One side of a channel.
 #[repr(C)]
-#[derive(Clone, Copy, Debug, PartialEq, Eq)]
+#[derive(Clone, Copy, Debug, PartialEq, Eq, Hash)]
 pub struct Party {
-    /// Type, one-time type, identifier and root.
-    pub key: [u8; 56],
-    /// Cents.
-    pub deposit: u64,
+    /// The LMS key: type, one-time type, identifier and root.
+    pub key: [u8; KEY_SIZE],
+    /// The deposit agreed.
+    pub deposit: Cents,
 }
 
 /// A channel as the book stores it.
 #[repr(C)]
-#[derive(Clone, Copy, Debug, PartialEq, Eq)]
+#[derive(Clone, Copy, Debug, PartialEq, Eq, Hash)]
 pub struct Channel {
-    /// 0 unused, 1 awaiting customer, 2 awaiting merchant, 3 open, 4 merchant closing, 5 customer
-    /// closing, 6 closed.
-    pub status: u8,
     /// The paper's café.
     pub customer: Party,
     /// The paper's bakery.
     pub merchant: Party,
+    /// The clock's second from which a closing may be settled.
+    pub deadline: Seconds,
+    /// What a customer's closing keeps for the customer.
+    pub kept: Cents,
     /// Seconds from a closing to its deadline.
     pub delay: u32,
-    /// The clock's second from which a closing may be settled.
-    pub deadline: u64,
-    /// Cents that a customer's closing keeps.
-    pub kept: u64,
+    /// The number of a [`Status`](crate::Status), in a sound book.
+    pub status: u32,
     /// The SHA-256 of the secret that wins a dispute.
-    pub lock: [u8; 32],
+    pub lock: [u8; DIGEST_SIZE],
 }
 
 /// A book as it is stored. Any values may stand in it: an unsound one is refused with 99.
+///
+/// A second one is made by `clone` alone. This does not compile:
+///
+/// ```compile_fail,E0507
+/// let book = finaruvom::Book::open(&[7; 16]).unwrap();
+/// let raw = *book.as_raw();
+/// ```
 #[repr(C)]
-#[derive(Clone, Copy, Debug, PartialEq, Eq)]
+#[derive(Clone, Debug, PartialEq, Eq, Hash)]
 pub struct Book {
-    /// What every opening writes; whoever copies a book copies it.
+    /// What every opening writes; whoever copies a book copies it. It carries the layout.
     pub mark: u64,
     /// The book id, a part of every signed message.
-    pub id: [u8; 16],
-    /// Seconds from 1970-01-01.
-    pub clock: u64,
+    pub id: [u8; ID_SIZE],
+    /// The clock.
+    pub clock: Seconds,
     /// Channels 0 to 63, each used once.
-    pub channels: [Channel; 64],
+    pub channels: [Channel; CHANNELS],
 }
 
 /// What a command answers.
+#[must_use = "a dropped answer is a lost payment"]
 #[repr(C)]
-#[derive(Clone, Copy, Debug, Default, PartialEq, Eq)]
+#[derive(Clone, Copy, Debug, Default, PartialEq, Eq, Hash)]
 pub struct Answer {
-    /// The refusal's number, or 0.
-    pub refusal: u8,
-    /// Cents paid to the customer.
-    pub customer: u64,
-    /// Cents paid to the merchant.
-    pub merchant: u64,
+    /// Paid to the customer.
+    pub customer: Cents,
+    /// Paid to the merchant.
+    pub merchant: Cents,
     /// Chain steps of the signature checks made.
     pub steps: u32,
+    /// The refusal's number, or 0.
+    pub refusal: u32,
 }
 
-extern "C" {
-    /// Writes the digest of at most 65,536 bytes and answers 0; of more, zeros and 2.
-    pub fn finaruvom_hash(bytes: *const u8, n: usize, digest: *mut u8) -> u8;
+/// A line of a run: the answer to one command.
+#[repr(C)]
+#[derive(Clone, Copy, Debug, Default, PartialEq, Eq, Hash)]
+pub struct Line {
+    /// The command's answer.
+    pub answer: Answer,
+}
 
-    /// Writes verdict and chain steps and answers 0; for a message of more than 1,024 bytes no, 0
-    /// and 2.
-    pub fn finaruvom_check(
-        key: *const u8,
-        key_n: usize,
-        message: *const u8,
-        message_n: usize,
-        signature: *const u8,
-        signature_n: usize,
-        verdict: *mut bool,
-        steps: *mut u32,
-    ) -> u8;
+/// What a reading of a channel gives.
+#[must_use]
+#[repr(C)]
+#[derive(Clone, Copy, Debug, Default, PartialEq, Eq, Hash)]
+pub struct Reading {
+    /// The two agreed deposits together.
+    pub total: Cents,
+    /// What the channel holds.
+    pub held: Cents,
+    /// The closing's deadline; 0 where nobody is closing.
+    pub deadline: Seconds,
+    /// What the customer's closing keeps; 0 outside one.
+    pub kept: Cents,
+    /// 0; 99 for an unsound book and 4 for a channel from 64 on, both with zeros.
+    pub refusal: u32,
+    /// The number of the channel's [`Status`](crate::Status).
+    pub status: u32,
+    /// The lock of the customer's closing; zeros outside one.
+    pub lock: [u8; DIGEST_SIZE],
+}
 
-    /// Makes any lent book fresh and answers 0; an id that is not 16 bytes long gives 2.
-    pub fn finaruvom_open(book: *mut Book, id: *const u8, id_n: usize) -> u8;
+/// The channel that is due next, if any.
+#[must_use]
+#[repr(C)]
+#[derive(Clone, Copy, Debug, Default, PartialEq, Eq, Hash)]
+pub struct Found {
+    /// Whether there is one.
+    pub some: bool,
+    /// Its number; 0 where there is none.
+    pub channel: u8,
+}
 
-    /// Carries a command out on the lent book, or refuses it.
-    pub fn finaruvom_apply(book: *mut Book, command: *const u8, command_n: usize) -> Answer;
+/// How far a run came.
+#[must_use]
+#[repr(C)]
+#[derive(Clone, Copy, Debug, Default, PartialEq, Eq, Hash)]
+pub struct Ran {
+    /// Lines written.
+    pub lines: usize,
+    /// Bytes used.
+    pub used: usize,
+    /// The number of a [`Cause`](crate::Cause).
+    pub cause: u64,
+}
+
+/// A version of the library, and the layout of its books.
+#[must_use]
+#[repr(C)]
+#[derive(Clone, Copy, Debug, Default, PartialEq, Eq, Hash)]
+pub struct Versions {
+    /// Major.
+    pub major: u32,
+    /// Minor.
+    pub minor: u32,
+    /// Patch.
+    pub patch: u32,
+    /// The layout, as [`LAYOUT`](crate::LAYOUT).
+    pub layout: u32,
 }

@@ -1,64 +1,43 @@
-//! The refusals by their numbers.
-use crate::raw::Answer;
-use std::fmt;
+//! The refusals.
+use crate::numbered::{named, numbered};
+use core::error::Error;
 
-/// Why a call was refused: one of the paper's numbers, never 0.
-#[derive(Clone, Copy, Debug, PartialEq, Eq)]
-pub struct Refusal(u8);
+numbered! {
+    /// Why a call was refused. The first check that says no decides.
+    ///
+    /// ```
+    /// use finaruvom::{Refusal, UnknownNumber};
+    ///
+    /// assert_eq!(Refusal::Status.number(), 5);
+    /// assert_eq!(Refusal::Status.to_string(), "the channel's status does not allow it");
+    /// assert_eq!(Refusal::try_from(5), Ok(Refusal::Status));
+    /// assert_eq!(Refusal::try_from(0), Err(UnknownNumber(0)));
+    /// ```
+    Refusal {
+        Unknown = 1: "no first byte, or it is not 01 to 0A",
+        Length = 2: "the length of the command, id, message or stored book does not fit",
+        Time = 3: "the time is before the clock or above 2^63 - 1",
+        Channel = 4: "the channel is not below 64",
+        Status = 5: "the channel's status does not allow it",
+        Keys = 6: "a key has other types, or the two keys are equal",
+        Delay = 7: "the delay is neither 0 nor 3,600 to 2,592,000",
+        Cents = 8: "the cents do not fit",
+        Deadline = 9: "the clock is on the wrong side of the deadline",
+        Secret = 10: "the secret does not hash to the lock",
+        Merchant = 11: "the merchant's signature is not good",
+        Customer = 12: "the customer's signature is not good",
+        Unsound = 99: "the book is of no opening or another layout, or a value is out of range",
+    }
+}
 
 impl Refusal {
-    /// The first byte is missing or no command.
-    pub const UNKNOWN: Refusal = Refusal(1);
-    /// A length is wrong.
-    pub const LENGTH: Refusal = Refusal(2);
-    /// The time is before the clock, or above 2^63 - 1.
-    pub const TIME: Refusal = Refusal(3);
-    /// The channel's number is 64 or more.
-    pub const CHANNEL: Refusal = Refusal(4);
-    /// The channel's status doesn't allow the command.
-    pub const STATUS: Refusal = Refusal(5);
-    /// A key has a wrong type, or both keys are equal.
-    pub const KEYS: Refusal = Refusal(6);
-    /// The delay is out of its range.
-    pub const DELAY: Refusal = Refusal(7);
-    /// The cents don't fit.
-    pub const CENTS: Refusal = Refusal(8);
-    /// The clock is on the wrong side of the deadline.
-    pub const DEADLINE: Refusal = Refusal(9);
-    /// The secret doesn't hash to the lock.
-    pub const SECRET: Refusal = Refusal(10);
-    /// The merchant's signature is bad.
-    pub const MERCHANT: Refusal = Refusal(11);
-    /// The customer's signature is bad.
-    pub const CUSTOMER: Refusal = Refusal(12);
-    /// The book is unsound.
-    pub const UNSOUND: Refusal = Refusal(99);
-
-    /// The number, as the paper and the journal's lines have it.
-    pub fn number(self) -> u8 {
-        self.0
-    }
-
-    /// Nothing for 0, else the refusal with this number.
-    pub(crate) fn checked(number: u8) -> Result<(), Refusal> {
+    /// Nothing for 0, else the refusal with this number of the library.
+    pub(crate) fn checked(number: u32) -> Result<(), Refusal> {
         match number {
             0 => Ok(()),
-            _ => Err(Refusal(number)),
+            _ => Err(named(number)),
         }
     }
 }
 
-impl fmt::Display for Refusal {
-    fn fmt(&self, f: &mut fmt::Formatter<'_>) -> fmt::Result {
-        write!(f, "refusal {}", self.0)
-    }
-}
-
-impl std::error::Error for Refusal {}
-
-impl Answer {
-    /// The refusal, or none where the command was accepted.
-    pub fn refused(&self) -> Option<Refusal> {
-        Refusal::checked(self.refusal).err()
-    }
-}
+impl Error for Refusal {}

@@ -17,7 +17,7 @@ mod vectors;
 
 pub use book::{Book, Channel, Party, CHANNELS, LARGEST, LONGEST_DELAY, SHORTEST_DELAY};
 pub use check::{check, Verdict, SIGNATURE, TYPES};
-pub use command::length;
+pub use command::{length, Command, Order};
 pub use journal::{run, statement, Ran};
 pub use machine::{apply, noes, Answer};
 pub use one_time::Place;

@@ -2,7 +2,7 @@
 use super::World;
 use crate::arbitrary;
 use crate::maker::Maker;
-use crate::pair::{Outcome, Pair};
+use crate::pair::{same, Outcome, Pair};
 use crate::rng::Rng;
 use crate::wallet::Wallet;
 use finaruvom::raw::Book;
@@ -12,6 +12,7 @@ pub fn case(rng: &mut Rng, world: &mut World) -> Outcome {
     for _ in 0..100 {
         let mut pair = pair(rng, world, arbitrary::touched_book);
         let settle = [0x0a, 0, rng.below(64) as u8];
+        pair.stored(&mut world.tally)?;
         pair.apply(&settle, &mut world.tally)?;
         pair.read(&mut world.tally)?;
     }
@@ -24,7 +25,9 @@ pub fn case(rng: &mut Rng, world: &mut World) -> Outcome {
             arbitrary::wild_book,
         ]);
         let mut pair = pair(rng, world, make);
+        pair.stored(&mut world.tally)?;
         commands(&mut pair, rng, world)?;
+        pair.stored(&mut world.tally)?;
         openings(&mut pair, rng, world)?;
     }
     Ok(())
@@ -59,5 +62,7 @@ fn openings(pair: &mut Pair, rng: &mut Rng, world: &mut World) -> Outcome {
     for length in [rng.below(16), 17 + rng.below(64), 15, 17, 0, 16] {
         pair.open(&rng.bytes(length), &mut world.tally)?;
     }
-    Ok(())
+    let fresh = Pair::fresh(pair.oracle.id)?;
+    let (library, expected) = (pair.library.as_bytes(), fresh.library.as_bytes());
+    same("bytes of an opened book", library, expected)
 }

@@ -59,8 +59,8 @@ fn kept(call: &str, written: &[&Fenced], read: &[&Fenced]) -> Outcome {
 }
 
 /// Whether the call answered 2 for a wrong length, and 0 for a right one.
-fn refused_with_2(call: &str, refusal: u8, wrong: bool) -> Outcome {
-    same(call, &refusal, &(2 * u8::from(wrong)))
+fn refused_with_2(call: &str, refusal: u32, wrong: bool) -> Outcome {
+    same(call, &refusal, &(2 * u32::from(wrong)))
 }
 
 fn hash(rng: &mut Rng, _: &mut Fenced) -> Outcome {
@@ -86,7 +86,8 @@ fn check(rng: &mut Rng, _: &mut Fenced) -> Outcome {
     let message = rng.bytes_of(&[0, 1, 19, 67, 1_024, 1_025]);
     let [mut key, mut signature, mut message] =
         [key, signature, message].map(|bytes| lend(rng, bytes));
-    let mut verdict = lend(rng, vec![0xff]);
+    let former = rng.below(2) as u8;
+    let mut verdict = lend(rng, vec![former]);
     let mut steps = Fenced::new(vec![0xff; 4], 4 * rng.below(2));
     // SAFETY: the three buffers are readable, and verdict and steps are writable.
     let refusal = unsafe {

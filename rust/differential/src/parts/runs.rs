@@ -6,16 +6,16 @@ use crate::pair::{same, Outcome, Pair};
 use crate::rng::Rng;
 use crate::tally::Tally;
 use crate::wallet::Wallet;
-use finaruvom::raw::Answer;
-use finaruvom::Line;
+use finaruvom::raw::{Answer, Line};
+use finaruvom::Cents;
 use oracle::Book;
 
 /// What stands in the lines before a run.
 const FORMER: Line = Line {
     answer: Answer {
-        refusal: 0xa5,
-        customer: 0xa5a5_a5a5_a5a5_a5a5,
-        merchant: 0x5a5a_5a5a_5a5a_5a5a,
+        refusal: 0xa500_00a5,
+        customer: Cents(0xa5a5_a5a5_a5a5_a5a5),
+        merchant: Cents(0x5a5a_5a5a_5a5a_5a5a),
         steps: 0xa5a5_5a5a,
     },
 };
@@ -77,7 +77,7 @@ fn whole(maker: &mut Maker, book: &Book) -> Vec<u8> {
 fn cuts(rng: &mut Rng, start: &Pair, journal: &[u8], tally: &mut Tally) -> Outcome {
     for cut in 0..=journal.len() {
         let mut lines = vec![FORMER; rng.below(40)];
-        start.clone().run(&journal[..cut], &mut lines, tally)?;
+        let _ = start.clone().run(&journal[..cut], &mut lines, tally)?;
     }
     Ok(())
 }
@@ -86,7 +86,7 @@ fn cuts(rng: &mut Rng, start: &Pair, journal: &[u8], tally: &mut Tally) -> Outco
 fn counts(start: &Pair, journal: &[u8], tally: &mut Tally) -> Outcome {
     for count in 0..24 {
         let mut lines = vec![FORMER; count];
-        start.clone().run(journal, &mut lines, tally)?;
+        let _ = start.clone().run(journal, &mut lines, tally)?;
     }
     Ok(())
 }

@@ -5,7 +5,6 @@ use crate::rng::Rng;
 use crate::tally::Tally;
 use crate::wallet::Wallet;
 use finaruvom::raw::finaruvom_check;
-use oracle::Verdict;
 
 /// A key, a message and a signature.
 #[derive(Clone)]
@@ -91,6 +90,8 @@ fn compare(signed: &Signed, tally: &mut Tally) -> Outcome {
         (false, 0) => "signatures of a wrong form",
         (false, _) => "bad signatures",
     });
+    let refusal = u32::from(expected.refusal);
+    let expected = (refusal, expected.good, expected.steps);
     same("check", &check(signed), &expected).map_err(|text| {
         format!(
             "{text}\nkey: {}\nmessage: {}\nsignature: {}",
@@ -101,8 +102,8 @@ fn compare(signed: &Signed, tally: &mut Tally) -> Outcome {
     })
 }
 
-/// The library's verdict and steps, which it must write whatever stood there.
-fn check(signed: &Signed) -> Verdict {
+/// The library's answer, and verdict and steps, which it must write whatever stood there.
+fn check(signed: &Signed) -> (u32, bool, u32) {
     let Signed {
         key,
         message,
@@ -122,9 +123,5 @@ fn check(signed: &Signed) -> Verdict {
             &mut steps,
         )
     };
-    Verdict {
-        refusal,
-        good,
-        steps,
-    }
+    (refusal, good, steps)
 }

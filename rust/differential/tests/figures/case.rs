@@ -1,7 +1,7 @@
 //! One command on one book, with its faults or without.
-use crate::desk::{plan, refused, wallet, Desk, ID};
+use crate::desk::{plan, refused, wallet, without_steps, Desk, ID};
 use differential::plan::Plan;
-use finaruvom::raw::Book;
+use finaruvom::raw::{self, Book};
 use finaruvom::Answer;
 use oracle::SIGNATURE;
 
@@ -33,7 +33,7 @@ impl Case {
             _ => [900, 100],
         };
         Case {
-            book: *desk.book.as_raw(),
+            book: desk.book.as_raw().clone(),
             plan: plan(opcode, numbers),
             first: opcode,
             length: LENGTHS[usize::from(opcode) - 1],
@@ -44,13 +44,13 @@ impl Case {
     /// the checks made.
     pub fn answer(&self) -> Answer {
         let command = self.write();
-        let mut book = finaruvom::Book::from_raw(self.book);
+        let mut book = finaruvom::Book::from_raw(self.book.clone());
         let answer = book.apply(&command);
-        let Answer { refusal, steps, .. } = answer;
+        let raw::Answer { refusal, steps, .. } = *answer.as_raw();
         let what = format!("{:02X} answered with {refusal}", self.plan.opcode);
         assert_eq!(steps, self.steps(&command, refusal), "{what}");
         if refusal != 0 {
-            assert_eq!(Answer { steps: 0, ..answer }, refused(refusal), "{what}");
+            assert_eq!(without_steps(&answer), refused(refusal), "{what}");
             assert!(*book.as_raw() == self.book, "{what} changed the book");
         }
         answer
@@ -68,7 +68,7 @@ impl Case {
     }
 
     /// The chain steps of the signature checks that are made before a command is answered so.
-    fn steps(&self, command: &[u8], refusal: u8) -> u32 {
+    fn steps(&self, command: &[u8], refusal: u32) -> u32 {
         let channel = &self.book.channels[0];
         let (merchant, customer) = (&channel.merchant.key, &channel.customer.key);
         let keys: &[&[u8; 56]] = match (self.plan.opcode, refusal) {

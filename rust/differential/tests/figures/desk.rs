@@ -1,8 +1,8 @@
 //! A desk with the paper's figures: channel 0, deposits 900 and 100, delay 3,600, clock 1,000.
 use differential::plan::Plan;
 use differential::wallet::Wallet;
-use finaruvom::raw::Channel;
-use finaruvom::{Answer, Book};
+use finaruvom::raw::{Answer, Channel};
+use finaruvom::{Book, Cents};
 use std::sync::{LazyLock, Mutex, MutexGuard};
 
 pub const ID: [u8; 16] = [1; 16];
@@ -80,7 +80,7 @@ impl Desk {
     /// Signs a command and gives it.
     pub fn file(&mut self, plan: &Plan) -> Answer {
         let command = plan.write(|party, message| wallet().sign(party, message));
-        self.book.apply(&command)
+        *self.book.apply(&command).as_raw()
     }
 
     /// Gives the command with these numbers; the answer comes without its chain steps.
@@ -108,15 +108,21 @@ pub fn plan(opcode: u8, numbers: [u64; 2]) -> Plan {
     }
 }
 
+/// An answer but for its chain steps.
+pub fn without_steps(answer: &finaruvom::Answer) -> Answer {
+    let answer = *answer.as_raw();
+    Answer { steps: 0, ..answer }
+}
+
 pub fn paid(customer: u64, merchant: u64) -> Answer {
     Answer {
-        customer,
-        merchant,
+        customer: Cents(customer),
+        merchant: Cents(merchant),
         ..Answer::default()
     }
 }
 
-pub fn refused(refusal: u8) -> Answer {
+pub fn refused(refusal: u32) -> Answer {
     Answer {
         refusal,
         ..Answer::default()

@@ -1,5 +1,6 @@
 //! The figures at the edges.
 use crate::desk::{paid, plan, refused, Desk};
+use finaruvom::{Cents, Seconds};
 
 #[test]
 fn establishing() {
@@ -37,7 +38,8 @@ fn mutual_close() {
 fn customer_closes() {
     let channel = *Desk::closing().channel();
     assert_eq!(channel.status, 5);
-    assert_eq!((channel.kept, channel.deadline), (700, 4_600));
+    assert_eq!(channel.kept, Cents(700));
+    assert_eq!(channel.deadline, Seconds(4_600));
     assert_eq!(Desk::closing().at(4_599).give(0x09, [0, 0]), paid(0, 700));
     assert_eq!(Desk::closing().at(4_600).give(0x09, [0, 0]), refused(9));
     assert_eq!(Desk::closing().at(4_599).give(0x0a, [0, 0]), refused(9));
@@ -48,7 +50,7 @@ fn customer_closes() {
 fn merchant_closes() {
     let mut desk = Desk::merchant_closing().at(4_599);
     assert_eq!(desk.give(0x07, [700, 300]), paid(0, 300));
-    assert_eq!(desk.channel().deadline, 8_199);
+    assert_eq!(desk.channel().deadline, Seconds(8_199));
     let mut desk = Desk::merchant_closing().at(4_600);
     assert_eq!(desk.give(0x07, [700, 300]), refused(9));
     assert_eq!(desk.give(0x0a, [0, 0]), paid(0, 1_000));

@@ -1,15 +1,19 @@
 //! Ways to make a command fail each check.
 use crate::case::{Case, NOBODY};
 use finaruvom::raw::Book;
+use finaruvom::Seconds;
 
 /// Two keys, the customer's and the merchant's.
 type Keys = [[u8; 56]; 2];
 
 /// Ways to make a book unsound that leave channel 0 as it is.
-const UNSOUND: [fn(&mut Book); 3] = [
+const UNSOUND: [fn(&mut Book); 6] = [
     |book| book.mark ^= 1,
-    |book| book.clock = 1 << 63,
+    |book| book.clock = Seconds(1 << 63),
     |book| book.channels[63].status = 7,
+    |book| book.channels[63].status = 256,
+    |book| book.channels[63].status = 259,
+    |book| book.channels[63].status = u32::MAX,
 ];
 
 impl Case {
@@ -59,7 +63,7 @@ impl Case {
                 case.book.channels[0].delay = 3_600;
             }),
             _ => self.each(&[u64::from(opcode == 0x0a)], |case, later| {
-                case.book.channels[0].deadline = case.book.clock + later;
+                case.book.channels[0].deadline = Seconds(case.book.clock.0 + later);
             }),
         }
     }
@@ -90,7 +94,7 @@ impl Case {
 }
 
 /// The statuses that do not allow a command.
-fn forbidden(opcode: u8) -> &'static [u8] {
+fn forbidden(opcode: u8) -> &'static [u32] {
     match opcode {
         0x02 => &[1, 2, 3, 4, 5, 6],
         0x03 => &[0, 2, 3, 4, 5, 6],

@@ -1,7 +1,7 @@
 //! Check 6: both keys carry types 6 and 4, and their 56 bytes differ.
 use crate::desk::{paid, plan, refused, Desk};
 use differential::plan::Plan;
-use finaruvom::Answer;
+use finaruvom::raw::Answer;
 
 /// The answer of a fresh channel to an 02, which names its keys or changes nothing.
 fn establish(desk: &mut Desk, plan: &Plan) -> Answer {

@@ -1,6 +1,7 @@
 //! Check 10: the secret of a dispute hashes to the kept lock, in all of its bits.
 use crate::desk::{paid, plan, refused, secret, Desk};
-use finaruvom::Answer;
+use finaruvom::raw::Answer;
+use finaruvom::Cents;
 
 /// The answer to a 09 with the secret; a refused one changes nothing.
 fn dispute(desk: &mut Desk, secret: [u8; 32]) -> Answer {
@@ -29,7 +30,7 @@ fn lock_one_bit_off() {
         let mut off = plan.clone();
         off.string = turned(plan.string, bit);
         let closed = desk.file(&off);
-        assert_eq!((closed.refusal, closed.merchant), (0, 300));
+        assert_eq!((closed.refusal, closed.merchant), (0, Cents(300)));
         assert_eq!(dispute(&mut desk, secret()), refused(10), "bit {bit}");
     }
 }

@@ -7,19 +7,19 @@ use finaruvom::Refusal;
 type Row = (Refusal, u8, u8, fn() -> Desk);
 
 const ROWS: [Row; 13] = [
-    (Refusal::UNSOUND, 99, 0x01, Desk::new),
-    (Refusal::UNKNOWN, 1, 0x01, Desk::new),
-    (Refusal::LENGTH, 2, 0x01, Desk::new),
-    (Refusal::TIME, 3, 0x01, Desk::new),
-    (Refusal::CHANNEL, 4, 0x03, Desk::established),
-    (Refusal::STATUS, 5, 0x03, Desk::established),
-    (Refusal::KEYS, 6, 0x02, Desk::new),
-    (Refusal::DELAY, 7, 0x02, Desk::new),
-    (Refusal::CENTS, 8, 0x03, Desk::established),
-    (Refusal::DEADLINE, 9, 0x09, Desk::closing),
-    (Refusal::SECRET, 10, 0x09, Desk::closing),
-    (Refusal::MERCHANT, 11, 0x06, Desk::open),
-    (Refusal::CUSTOMER, 12, 0x06, Desk::open),
+    (Refusal::Unsound, 99, 0x01, Desk::new),
+    (Refusal::Unknown, 1, 0x01, Desk::new),
+    (Refusal::Length, 2, 0x01, Desk::new),
+    (Refusal::Time, 3, 0x01, Desk::new),
+    (Refusal::Channel, 4, 0x03, Desk::established),
+    (Refusal::Status, 5, 0x03, Desk::established),
+    (Refusal::Keys, 6, 0x02, Desk::new),
+    (Refusal::Delay, 7, 0x02, Desk::new),
+    (Refusal::Cents, 8, 0x03, Desk::established),
+    (Refusal::Deadline, 9, 0x09, Desk::closing),
+    (Refusal::Secret, 10, 0x09, Desk::closing),
+    (Refusal::Merchant, 11, 0x06, Desk::open),
+    (Refusal::Customer, 12, 0x06, Desk::open),
 ];
 
 #[test]

@@ -25,7 +25,12 @@ const ROWS: [Row; 12] = [
 fn hold((opcode, desk, applying): Row) {
     let answered = |case: &Case, refusal, faults: &[u8]| {
         let answer = case.answer();
-        assert_eq!(answer.refusal, refusal, "{opcode:02X} failing {faults:?}");
+        let number = answer.as_raw().refusal;
+        assert_eq!(
+            number,
+            u32::from(refusal),
+            "{opcode:02X} failing {faults:?}"
+        );
     };
     let right = Case::new(&desk(), opcode);
     answered(&right, 0, &[]);
@@ -51,8 +56,9 @@ fn the_first_no_decides() {
 #[test]
 fn no_first_byte() {
     let mut book = Desk::new().book;
-    assert_eq!(book.apply(&[]), refused(1));
-    let mut raw = *book.as_raw();
+    assert_eq!(*book.apply(&[]).as_raw(), refused(1));
+    let mut raw = book.as_raw().clone();
     raw.mark ^= 1;
-    assert_eq!(Book::from_raw(raw).apply(&[]), refused(99));
+    let mut book = Book::from_raw(raw);
+    assert_eq!(*book.apply(&[]).as_raw(), refused(99));
 }

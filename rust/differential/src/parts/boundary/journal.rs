@@ -11,14 +11,19 @@ use std::mem::size_of;
 pub fn read(rng: &mut Rng, book: &mut Fenced) -> Outcome {
     let n = rng.pick(&[0, 1, 63, 64, 65_535, usize::MAX]);
     let book_at = book.pointer::<raw::Book>();
+    let (reading, found);
     // SAFETY: the book is readable, and any bytes are a book.
     let (before, after) = unsafe {
-        let before = *book_at;
-        raw::finaruvom_read(book_at, n);
-        raw::finaruvom_due(book_at);
-        (before, *book_at)
+        let before = (*book_at).clone();
+        reading = raw::finaruvom_read(book_at, n);
+        found = raw::finaruvom_due(book_at);
+        (before, (*book_at).clone())
     };
     kept("read or due", &[book], &[])?;
+    match (reading.refusal, reading.status, found.some, found.channel) {
+        (0 | 4 | 99, 0..=6, true, 0..=63) | (0 | 4 | 99, 0..=6, false, 0) => {}
+        _ => return Err(format!("read or due: {reading:?}, {found:?}")),
+    }
     same("book after and before read and due", &after, &before)
 }
 

@@ -1,0 +1,51 @@
+//! The functions of the archive.
+use super::{Answer, Book, Found, Line, Ran, Reading, Versions};
+
+extern "C" {
+    /// The library's version and layout.
+    pub fn finaruvom_version() -> Versions;
+
+    /// The layout. The name carries its number, so that an archive of another layout does not link.
+    #[must_use]
+    pub fn finaruvom_layout_2() -> u32;
+
+    /// Writes the digest of at most 65,536 bytes and answers 0; of more, zeros and 2.
+    #[must_use]
+    pub fn finaruvom_hash(bytes: *const u8, n: usize, digest: *mut u8) -> u32;
+
+    /// Writes verdict and chain steps and answers 0; for a message of more than 1,024 bytes no, 0
+    /// and 2.
+    #[must_use]
+    pub fn finaruvom_check(
+        key: *const u8,
+        key_n: usize,
+        message: *const u8,
+        message_n: usize,
+        signature: *const u8,
+        signature_n: usize,
+        verdict: *mut bool,
+        steps: *mut u32,
+    ) -> u32;
+
+    /// Makes any lent book fresh and answers 0; an id that is not 16 bytes long gives 2.
+    #[must_use]
+    pub fn finaruvom_open(book: *mut Book, id: *const u8, id_n: usize) -> u32;
+
+    /// Carries a command out on the lent book, or refuses it.
+    pub fn finaruvom_apply(book: *mut Book, command: *const u8, command_n: usize) -> Answer;
+
+    /// The reading of channel `n`.
+    pub fn finaruvom_read(book: *const Book, n: usize) -> Reading;
+
+    /// The closing channel with the smallest deadline.
+    pub fn finaruvom_due(book: *const Book) -> Found;
+
+    /// Runs a journal on the lent book, one line for each command.
+    pub fn finaruvom_run(
+        book: *mut Book,
+        commands: *const u8,
+        commands_n: usize,
+        lines: *mut Line,
+        lines_n: usize,
+    ) -> Ran;
+}

@@ -1,0 +1,33 @@
+//! Size, alignment and places of all structs that cross the boundary, checked by the compiler.
+use super::{Answer, Book, Channel, Found, Line, Party, Ran, Reading, Versions};
+use crate::sizes::BOOK_SIZE;
+use core::mem::offset_of;
+
+/// The size of the field that a function leads to.
+const fn width<S, F>(_: fn(&S) -> &F) -> usize {
+    size_of::<F>()
+}
+
+/// Asserts size and alignment of a struct, the place of each field, and that there is no padding.
+macro_rules! laid_out {
+    ($name:ident, $size:expr, $align:literal: $($field:ident at $place:literal),+) => {
+        const _: () = {
+            assert!(size_of::<$name>() == $size);
+            assert!(align_of::<$name>() == $align);
+            $(assert!(offset_of!($name, $field) == $place);)+
+            assert!(0 $(+ width(|whole: &$name| &whole.$field))+ == $size);
+        };
+    };
+}
+
+laid_out!(Party, 64, 8: key at 0, deposit at 56);
+laid_out!(Channel, 184, 8: customer at 0, merchant at 64, deadline at 128, kept at 136,
+    delay at 144, status at 148, lock at 152);
+laid_out!(Book, BOOK_SIZE, 8: mark at 0, id at 8, clock at 24, channels at 32);
+laid_out!(Answer, 24, 8: customer at 0, merchant at 8, steps at 16, refusal at 20);
+laid_out!(Line, 24, 8: answer at 0);
+laid_out!(Reading, 72, 8: total at 0, held at 8, deadline at 16, kept at 24, refusal at 32,
+    status at 36, lock at 40);
+laid_out!(Found, 2, 1: some at 0, channel at 1);
+laid_out!(Ran, 24, 8: lines at 0, used at 8, cause at 16);
+laid_out!(Versions, 16, 4: major at 0, minor at 4, patch at 8, layout at 12);

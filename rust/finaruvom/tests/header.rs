@@ -1,0 +1,129 @@
+//! The header's numbers are the crate's, and the archive's version is that of both.
+use finaruvom::raw;
+use finaruvom::{
+    version, Cause, Refusal, Status, UnknownNumber, Versions, BOOK_SIZE, CHANNELS, DIGEST_SIZE,
+    ID_SIZE, KEY_SIZE, LAYOUT, SIGNATURE_SIZE,
+};
+use std::collections::BTreeMap;
+use std::fmt::Debug;
+
+const HEADER: &str = include_str!("../../../include/finaruvom.h");
+
+type Numbers = BTreeMap<String, usize>;
+
+/// The header's definitions of numbers.
+fn defined() -> Numbers {
+    let lines = HEADER
+        .lines()
+        .filter_map(|line| line.strip_prefix("#define FINARUVOM_"));
+    let pairs = lines.filter_map(|line| line.split_once(' '));
+    let numbers = pairs.filter_map(|(name, value)| Some((name.into(), value.parse().ok()?)));
+    numbers.collect()
+}
+
+/// The numbers of one of the header's enums.
+fn listed(name: &str) -> Numbers {
+    let start = format!("enum finaruvom_{name} {{");
+    let (_, rest) = HEADER.split_once(&start).unwrap();
+    let (body, _) = rest.split_once("};").unwrap();
+    let items = body.lines().filter_map(|line| {
+        let (name, value) = line.split_once(',')?.0.split_once(" = ")?;
+        let name = name.trim().strip_prefix("FINARUVOM_")?;
+        Some((camel(name), value.parse().unwrap()))
+    });
+    items.collect()
+}
+
+/// `AwaitingCustomer` for `AWAITING_CUSTOMER`.
+fn camel(name: &str) -> String {
+    let words = name.split('_');
+    let word = |word: &str| word[..1].to_string() + &word[1..].to_lowercase();
+    words.map(word).collect()
+}
+
+/// The variants of one of the crate's enums, by their names.
+fn variants<T: TryFrom<u8> + Copy + Debug>(number: fn(T) -> u8) -> Numbers {
+    let all = (0..=u8::MAX).filter_map(|byte| Some((byte, T::try_from(byte).ok()?)));
+    let named = all.map(|(byte, variant)| {
+        assert_eq!(number(variant), byte);
+        (format!("{variant:?}"), usize::from(byte))
+    });
+    named.collect()
+}
+
+/// The crate's version by its parts.
+fn packaged() -> [u32; 3] {
+    let parts = env!("CARGO_PKG_VERSION").split('.');
+    let parts: Vec<u32> = parts.map(|part| part.parse().unwrap()).collect();
+    parts.try_into().unwrap()
+}
+
+#[test]
+fn definitions() {
+    let (stacks, mut defined): (Numbers, Numbers) = defined()
+        .into_iter()
+        .partition(|(name, _)| name.starts_with("STACK_"));
+    // As the crate's documentation says.
+    assert!(stacks.len() >= 7 && stacks.values().all(|bytes| *bytes <= 32 * 1_024));
+    let [major, minor, patch] = packaged();
+    let crates = [
+        ("VERSION_MAJOR", major as usize),
+        ("VERSION_MINOR", minor as usize),
+        ("VERSION_PATCH", patch as usize),
+        ("LAYOUT", LAYOUT as usize),
+        ("CHANNELS", CHANNELS),
+        ("ID_SIZE", ID_SIZE),
+        ("KEY_SIZE", KEY_SIZE),
+        ("SIGNATURE_SIZE", SIGNATURE_SIZE),
+        ("DIGEST_SIZE", DIGEST_SIZE),
+        ("BOOK_SIZE", BOOK_SIZE),
+        ("PARTY_SIZE", size_of::<raw::Party>()),
+        ("CHANNEL_SIZE", size_of::<raw::Channel>()),
+        ("ANSWER_SIZE", size_of::<raw::Answer>()),
+        ("LINE_SIZE", size_of::<raw::Line>()),
+        ("READING_SIZE", size_of::<raw::Reading>()),
+        ("FOUND_SIZE", size_of::<raw::Found>()),
+        ("RAN_SIZE", size_of::<raw::Ran>()),
+        ("VERSIONS_SIZE", size_of::<raw::Versions>()),
+    ];
+    for (name, value) in crates {
+        assert_eq!(defined.remove(name), Some(value), "{name}");
+    }
+    assert_eq!(defined, Numbers::new(), "not in the crate");
+}
+
+#[test]
+fn refusals() {
+    let mut listed = listed("refusal");
+    assert_eq!(listed.remove("Accepted"), Some(0));
+    assert_eq!(listed.len(), 13);
+    assert_eq!(variants(Refusal::number), listed);
+    assert_eq!(Refusal::try_from(13), Err(UnknownNumber(13)));
+    assert_eq!(UnknownNumber(13).to_string(), "unknown number 13");
+}
+
+#[test]
+fn statuses() {
+    let listed = listed("status");
+    assert_eq!(listed.len(), 7);
+    assert_eq!(variants(Status::number), listed);
+}
+
+#[test]
+fn causes() {
+    let listed = listed("cause");
+    assert_eq!(listed.len(), 4);
+    assert_eq!(variants(Cause::number), listed);
+}
+
+#[test]
+fn archive() {
+    let [major, minor, patch] = packaged();
+    let expected = Versions {
+        major,
+        minor,
+        patch,
+        layout: LAYOUT,
+    };
+    assert_eq!(version(), expected);
+}

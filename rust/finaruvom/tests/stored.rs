@@ -1,0 +1,196 @@
+//! Books as bytes.
+use finaruvom::command::{Establish, FundCustomer, SetClock};
+use finaruvom::{raw, Book, Cause, Cents, Line, Ran, Refusal, Seconds, BOOK_SIZE};
+
+const ID: [u8; 16] = *b"the book's id 01";
+/// What every opening writes: the word and the layout.
+const MARK: u64 = u64::from_be_bytes(*b"arbiter\x02");
+
+/// A book that holds these bytes, whatever they are.
+fn holding(bytes: &[u8; BOOK_SIZE]) -> Book {
+    // SAFETY: there are as many bytes as a book has, and any bytes are a book.
+    Book::from_raw(unsafe { bytes.as_ptr().cast::<raw::Book>().read_unaligned() })
+}
+
+/// Bytes that differ from each other.
+fn mixed() -> [u8; BOOK_SIZE] {
+    let mut state: u32 = 1;
+    [0; BOOK_SIZE].map(|_: u8| {
+        state = state.wrapping_mul(1_103_515_245).wrapping_add(12_345);
+        state.to_be_bytes()[0]
+    })
+}
+
+/// What may stand in memory before a book is made there.
+fn former() -> Vec<[u8; BOOK_SIZE]> {
+    let filled = [0x00, 0x55, 0xaa, 0xff].map(|byte| [byte; BOOK_SIZE]);
+    let mut former = filled.to_vec();
+    former.push(mixed());
+    former.push(*used().as_bytes());
+    former
+}
+
+fn fresh() -> Book {
+    Book::open(&ID).unwrap()
+}
+
+/// A book with a channel in use.
+fn used() -> Book {
+    let [customer_key, merchant_key] = [1, 2].map(|byte| {
+        let mut key = [byte; 56];
+        key[..8].copy_from_slice(&[0, 0, 0, 6, 0, 0, 0, 4]);
+        key
+    });
+    let establish = Establish {
+        channel: 63,
+        customer_key,
+        merchant_key,
+        customer: Cents(900),
+        merchant: Cents(100),
+        delay: 3_600,
+    };
+    let fund = FundCustomer {
+        channel: 63,
+        amount: Cents(900),
+    };
+    let clock = SetClock {
+        time: Seconds(1_000),
+    };
+    let mut book = fresh();
+    for command in [&clock.command()[..], &establish.command(), &fund.command()] {
+        assert_eq!(book.apply(command).refused(), None);
+    }
+    book
+}
+
+#[test]
+fn stored_and_restored() {
+    for make in [fresh, used] {
+        let book = make();
+        let stored = book.as_bytes().to_vec();
+        let restored = Book::from_bytes(&stored).unwrap();
+        assert_eq!(restored, book);
+        assert_eq!(restored.as_bytes()[..], stored);
+        // From an odd address too.
+        let shifted = [&[0], &stored[..]].concat();
+        assert_eq!(Book::from_bytes(&shifted[1..]), Ok(book));
+    }
+}
+
+#[test]
+fn fresh_over_any_contents() {
+    let mut expected = [0; BOOK_SIZE];
+    expected[..8].copy_from_slice(&MARK.to_le_bytes());
+    expected[8..24].copy_from_slice(&ID);
+    assert!(*fresh().as_bytes() == expected);
+    for contents in former() {
+        let mut book = holding(&contents);
+        assert_eq!(book.reopen(&ID[1..]), Err(Refusal::Length));
+        assert!(*book.as_bytes() == contents);
+        assert_eq!(book.reopen(&ID), Ok(()));
+        assert!(*book.as_bytes() == expected);
+    }
+}
+
+/// The values of one book, written into another one by one.
+fn copy_values(from: &raw::Book, to: &mut raw::Book) {
+    to.mark = from.mark;
+    to.id = from.id;
+    to.clock = from.clock;
+    for (from, to) in from.channels.iter().zip(&mut to.channels) {
+        to.customer.key = from.customer.key;
+        to.customer.deposit = from.customer.deposit;
+        to.merchant.key = from.merchant.key;
+        to.merchant.deposit = from.merchant.deposit;
+        to.deadline = from.deadline;
+        to.kept = from.kept;
+        to.delay = from.delay;
+        to.status = from.status;
+        to.lock = from.lock;
+    }
+}
+
+#[test]
+fn equal_values_are_equal_bytes() {
+    for contents in former() {
+        let mut raw = holding(&contents).as_raw().clone();
+        copy_values(used().as_raw(), &mut raw);
+        let book = Book::from_raw(raw);
+        assert_eq!(book, used());
+        assert!(book.as_bytes() == used().as_bytes());
+    }
+}
+
+#[test]
+fn wrong_lengths() {
+    let stored = used().as_bytes().to_vec();
+    let near = (BOOK_SIZE - 200..=BOOK_SIZE + 200).filter(|length| *length != BOOK_SIZE);
+    for length in near.chain([0, 1, 8, 12_320, 2 * BOOK_SIZE]) {
+        let mut bytes = stored.clone();
+        bytes.resize(length, 0);
+        assert_eq!(Book::from_bytes(&bytes), Err(Refusal::Length), "{length}");
+    }
+    assert!(Book::from_bytes(&stored).is_ok());
+}
+
+/// Asserts that every call refuses a book with these values and keeps them.
+fn refused(raw: &raw::Book) {
+    let mut book = Book::from_raw(raw.clone());
+    assert_eq!(Book::from_bytes(book.as_bytes()), Err(Refusal::Unsound));
+    let settle = [0x0a, 0, 63];
+    assert_eq!(book.apply(&settle).paid(), Err(Refusal::Unsound));
+    assert_eq!(book.read(63), Err(Refusal::Unsound));
+    assert_eq!(book.due(), None);
+    let mut lines = [Line::default(); 1];
+    let ran = Ran {
+        lines: 1,
+        used: 3,
+        cause: Cause::NoBytes,
+    };
+    assert_eq!(book.run(&settle, &mut lines), ran);
+    assert_eq!(lines[0].answer.refused(), Some(Refusal::Unsound));
+    assert_eq!(lines[0].answer.as_raw().refusal, 99);
+    assert_eq!(book.as_raw(), raw);
+}
+
+/// A book in which channel 63 is due.
+fn closing() -> raw::Book {
+    let mut raw = used().as_raw().clone();
+    raw.channels[63].status = 4;
+    let book = Book::from_raw(raw.clone());
+    assert_eq!(book.due(), Some(63));
+    assert_eq!(Book::from_bytes(book.as_bytes()), Ok(book));
+    raw
+}
+
+#[test]
+fn other_layouts() {
+    let others = (0..=u8::MAX).filter(|layout| *layout != 2);
+    // 0x21 is that of the books which were written before layouts had numbers.
+    let marks = others.map(|layout| MARK & !0xff | u64::from(layout));
+    for mark in marks.chain([0, u64::MAX, MARK.swap_bytes()]) {
+        let mut raw = closing();
+        raw.mark = mark;
+        refused(&raw);
+    }
+}
+
+#[test]
+fn values_out_of_range() {
+    for status in [7, 8, 255, 256, 259, 260, 1 << 16 | 4, 4 << 24, u32::MAX] {
+        let mut raw = closing();
+        raw.channels[63].status = status;
+        refused(&raw);
+    }
+    for delay in [0, 3_599, 2_592_001, u32::MAX] {
+        let mut raw = closing();
+        raw.channels[63].delay = delay;
+        refused(&raw);
+    }
+    let mut raw = closing();
+    raw.clock = Seconds(1 << 63);
+    refused(&raw);
+    let mut raw = closing();
+    raw.channels[63].merchant.deposit = Cents((1 << 63) - 900);
+    refused(&raw);
+}
