@@ -37,7 +37,6 @@ static const char *name_of(uint8_t first) {
 static void check_version(void) {
     struct finaruvom_versions v = finaruvom_version();
     must(v.major == FINARUVOM_VERSION_MAJOR && v.minor == FINARUVOM_VERSION_MINOR && v.layout == FINARUVOM_LAYOUT, "another library than the header's");
-    printf("library %" PRIu32 ".%" PRIu32 ".%" PRIu32 ", layout %" PRIu32 "\n", v.major, v.minor, v.patch, v.layout);
 }
 
 static void read_input(const char *path) {
