@@ -1,14 +1,14 @@
 // A desk's program: it files the commands of a journal one by one, pays what is answered, and shows that the journal gives the same book again.
-//     gcc -Iinclude examples/desk.c target/staticlib/libfinaruvom.a -o target/desk && target/desk examples/week.journal
+//     gcc -Wall -Iinclude examples/desk.c target/staticlib/libfinaruvom.a -o target/desk && target/desk examples/week.journal
 #include "finaruvom.h"
 #include <inttypes.h>
 #include <stdio.h>
 #include <stdlib.h>
 #include <string.h>
 
-enum { INPUT = 65536, COMMANDS = 64, BATCH = 8 };
+enum { INPUT = 65536, COMMANDS = INPUT / 3, BATCH = 8 };
 
-static uint8_t input[INPUT];
+static uint8_t input[INPUT + 1]; // one byte more tells a journal that is too long
 static size_t input_n;
 static struct finaruvom_book book;
 static struct finaruvom_answer answers[COMMANDS]; // what a desk keeps beside its journal
@@ -19,12 +19,6 @@ static void must(bool holds, const char *what) {
         fprintf(stderr, "desk: %s\n", what);
         exit(1);
     }
-}
-
-// The whole length of a command, by its first byte; 0 for no command.
-static size_t size_of(uint8_t first) {
-    static const size_t sizes[] = {0, 9, 135, 11, 11, 1455, 2923, 2955, 1455, 1487, 3};
-    return first < sizeof sizes / sizeof sizes[0] ? sizes[first] : 0;
 }
 
 static const char *name_of(uint8_t first) {
@@ -42,8 +36,9 @@ static void check_version(void) {
 static void read_input(const char *path) {
     FILE *file = fopen(path, "rb");
     must(file != NULL, "no journal");
-    input_n = fread(input, 1, INPUT, file);
-    must(ferror(file) == 0 && fclose(file) == 0 && input_n >= FINARUVOM_ID_SIZE, "no book id in the journal");
+    input_n = fread(input, 1, sizeof input, file);
+    must(ferror(file) == 0 && fclose(file) == 0, "the journal cannot be read");
+    must(input_n >= FINARUVOM_ID_SIZE && input_n <= INPUT, "no book id, or a journal that is too long");
 }
 
 // What the desk knows of a channel, and which one is due next.
@@ -70,7 +65,7 @@ static void file_command(const uint8_t *command, size_t n) {
         puts("carried out");
     else
         printf("pays %" PRIu64 " to the customer, %" PRIu64 " to the merchant\n", a.customer, a.merchant);
-    if (command[0] > 5)
+    if (a.refusal == FINARUVOM_ACCEPTED && command[0] > 5)
         show((size_t)(command[1] << 8 | command[2]));
 }
 
@@ -78,7 +73,7 @@ static void file_command(const uint8_t *command, size_t n) {
 static void file_all(void) {
     size_t at = FINARUVOM_ID_SIZE;
     while (at < input_n) {
-        size_t n = size_of(input[at]);
+        size_t n = finaruvom_size(input[at]);
         must(n != 0 && n <= input_n - at, "a command that is unknown or cut short");
         file_command(input + at, n);
         at += n;
@@ -105,11 +100,11 @@ static void recover(void) {
 
 // A refused command leaves every byte of the book.
 static void refuse(void) {
-    static const uint8_t settle[] = {0x0a, 0, 63};
+    static const uint8_t settle[] = {0x0a, 0, FINARUVOM_CHANNELS};
     struct finaruvom_book before = book;
     struct finaruvom_answer a = finaruvom_apply(&book, settle, sizeof settle);
-    must(a.refusal == FINARUVOM_STATUS && memcmp(&before, &book, sizeof book) == 0, "a refused command left a trace");
-    puts("a settle of channel 63, which is unused: refused with 5, and every byte stays");
+    must(a.refusal == FINARUVOM_CHANNEL && memcmp(&before, &book, sizeof book) == 0, "a refused command left a trace");
+    puts("a settle of channel 64, which no book has: refused with 4, and every byte stays");
 }
 
 // A book that was damaged where it shows, and one of another layout: every call says so.

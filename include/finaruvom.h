@@ -1,5 +1,5 @@
 // The channel arbiter for C (C11) and C++ (C++11) on x86-64 Linux: link libfinaruvom.a, which `rt staticlib finaruvom` makes.
-// The customer is the paper's café, the merchant its bakery. What the bytes of a command mean stands in docs/FORMAT.md.
+// What the bytes of a command mean stands in docs/FORMAT.md. Every program part that includes this header is linked with the library.
 //
 // Any bytes may stand in a book and in a command: nothing is asked of them. What is asked of the caller stands under "Duties" at each function, in these
 // words:
@@ -25,6 +25,13 @@ extern "C" {
 // A call whose answer must be looked at: a dropped answer is a lost payment.
 #define FINARUVOM_CALL __attribute__((nonnull, warn_unused_result))
 
+// What the linker keeps though nothing reads it.
+#if __has_attribute(retain)
+#define FINARUVOM_KEPT __attribute__((used, retain))
+#else
+#define FINARUVOM_KEPT __attribute__((used))
+#endif
+
 // The version that this header belongs to, and the number of the book's layout, which the mark of every book carries.
 #define FINARUVOM_VERSION_MAJOR 0
 #define FINARUVOM_VERSION_MINOR 9
@@ -47,14 +54,14 @@ extern "C" {
 #define FINARUVOM_RAN_SIZE 24
 #define FINARUVOM_VERSIONS_SIZE 16
 
-// Bytes of stack that are enough for a call.
-#define FINARUVOM_STACK_HASH 2048
-#define FINARUVOM_STACK_CHECK 4096
-#define FINARUVOM_STACK_OPEN 13312
-#define FINARUVOM_STACK_APPLY 16384
-#define FINARUVOM_STACK_RUN 16384
-#define FINARUVOM_STACK_READ 25600
-#define FINARUVOM_STACK_DUE 13312
+// Bytes of stack that are enough for a call, the dynamic linker's part in a first call included.
+#define FINARUVOM_STACK_HASH 8192
+#define FINARUVOM_STACK_CHECK 8192
+#define FINARUVOM_STACK_OPEN 20480
+#define FINARUVOM_STACK_APPLY 24576
+#define FINARUVOM_STACK_RUN 24576
+#define FINARUVOM_STACK_READ 32768
+#define FINARUVOM_STACK_DUE 20480
 
 // Refusals, in the order in which a call makes its checks.
 enum finaruvom_refusal {
@@ -175,7 +182,7 @@ struct finaruvom_versions finaruvom_version(void);
 
 // The layout. Its name carries the number and every program refers to it, so that one does not link with a library of another layout.
 uint32_t finaruvom_layout_2(void);
-__attribute__((used)) static uint32_t (*const finaruvom_linked_layout)(void) = finaruvom_layout_2;
+FINARUVOM_KEPT static uint32_t (*const finaruvom_linked_layout)(void) = finaruvom_layout_2;
 
 // The SHA-256 digest of at most 65,536 bytes, and 0; of more, zeros and 2.
 // Duties: bytes not null, shared; digest not null, 32 bytes, alone; stack FINARUVOM_STACK_HASH.
@@ -186,6 +193,9 @@ FINARUVOM_CALL uint32_t finaruvom_hash(const uint8_t *bytes, size_t n, uint8_t d
 // 0 or 1, already before the call: give it a value first; stack FINARUVOM_STACK_CHECK.
 FINARUVOM_CALL uint32_t finaruvom_check(const uint8_t *key, size_t key_n, const uint8_t *message, size_t message_n, const uint8_t *signature,
                                         size_t signature_n, bool *verdict, uint32_t *steps);
+
+// The whole length of the command that begins with this byte; 0 where it begins none. No duties.
+size_t finaruvom_size(uint8_t first);
 
 // Makes any lent book fresh, with the id, and answers 0; an id that is not 16 bytes long gives 2 and keeps every value.
 // Duties: book not null, aligned, alone; id not null, shared; stack FINARUVOM_STACK_OPEN.

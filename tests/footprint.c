@@ -150,12 +150,14 @@ static size_t stack_of(void (*call)(void)) {
 }
 
 static int wrong;
+// What the dynamic linker takes in a first call, to find memcpy.
+static size_t binding;
 
 // Makes the call, prints what it took, and holds it to the limits: two books copied and little else for each of its `turns`, and the bytes of
-// stack that the header names.
+// stack that the header names, also for a first call.
 static void measure(const char *name, void (*call)(void), bool expected(void), size_t turns, size_t limit) {
     size_t took = stack_of(call), copies = (books_copied + turns - 1) / turns;
-    bool answer_good = expected(), small = copies <= 2 && copied <= turns * (2 * sizeof book + 4096) && took <= limit;
+    bool answer_good = expected(), small = copies <= 2 && copied <= turns * (2 * sizeof book + 4096) && took + binding <= limit;
     printf("%-20s copies of the book %zu, bytes copied %6zu, of stack %6zu%s%s\n", name, copies, copied / turns, took, answer_good ? "" : ": ANOTHER ANSWER",
            small ? "" : ": OVER ITS LIMIT");
     wrong |= !answer_good || !small;
@@ -180,6 +182,9 @@ static bool answered_0(void) {
 }
 
 int main(void) {
+    size_t first = stack_of(hash);
+    binding = first - stack_of(hash);
+    printf("a first call takes %zu bytes of stack more\n", binding);
     for (size_t i = 0; i < sizeof rows / sizeof rows[0]; i++) {
         const struct row *row = &rows[i];
         fill(row->status, row->deadline);

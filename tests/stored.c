@@ -1,12 +1,12 @@
-// Stored books: stored LAYOUT-1, a book that version 0.8.0 wrote, in the first layout. It is answered with 99, and an opening over it leaves the
-// bytes of every fresh book.
+// Stored books: stored FOLDER, which has a book of each layout, written after 18 commands of the sample journal. This layout's is read as it was
+// written; every other is answered with 99, and an opening over it leaves the bytes of every fresh book.
 #include "../include/finaruvom.h"
 #include <stdio.h>
 #include <stdlib.h>
 #include <string.h>
 
 static const uint8_t id[FINARUVOM_ID_SIZE] = {7, 1}, clock_command[9] = {1, 0, 0, 0, 0, 0, 0, 3, 0xe8};
-static struct finaruvom_book older, lent, fresh;
+static struct finaruvom_book stored, lent, fresh;
 
 static void must(bool holds, const char *what) {
     if (!holds) {
@@ -15,10 +15,25 @@ static void must(bool holds, const char *what) {
     }
 }
 
-// The book's first bytes, as a desk would read them that did not look at the file's length.
-static void load(const char *path) {
+// The first bytes of the book of a layout, as a desk would read them that did not look at the file's length.
+static void load(const char *folder, unsigned layout) {
+    char path[4096];
+    snprintf(path, sizeof path, "%s/layout-%u.bin", folder, layout);
     FILE *file = fopen(path, "rb");
-    must(file != NULL && fread(&older, 1, sizeof older, file) == sizeof older && fclose(file) == 0, "no such book");
+    must(file != NULL && fread(&stored, 1, sizeof stored, file) == sizeof stored && fclose(file) == 0, "no book of a layout");
+}
+
+// Channel 1 was disputed, and in channel 2 the customer answered the merchant's closing.
+static void as_written(void) {
+    struct finaruvom_reading disputed = finaruvom_read(&stored, 1), closing = finaruvom_read(&stored, 2);
+    must(memcmp(stored.id, "Mill Lane Bakery", sizeof stored.id) == 0 && stored.clock == 1793671200, "this layout's book has another id or clock");
+    must(disputed.refusal == FINARUVOM_ACCEPTED && disputed.status == FINARUVOM_CLOSED && disputed.total == 100000, "channel 1 is read otherwise");
+    must(closing.status == FINARUVOM_CUSTOMER_CLOSING && closing.total == 55000 && closing.held == 20000 && closing.kept == 20000 &&
+             closing.deadline == 1793682000 && closing.lock[0] == 0x58 && closing.lock[31] == 0xdf,
+         "channel 2 is read otherwise");
+    must(stored.channels[2].delay == 10800 && stored.channels[2].customer.deposit == 50000 && stored.channels[2].merchant.deposit == 5000 &&
+             stored.channels[2].customer.key[55] == 0x32 && stored.channels[2].merchant.key[55] == 0x77,
+         "channel 2 has other terms");
 }
 
 // Every call says that the book is not sound, and leaves every byte of it and of the lines.
@@ -36,27 +51,31 @@ static void refused(const char *what) {
     must(memcmp(&before, &lent, sizeof lent) == 0, what);
 }
 
-static void opened_over(uint8_t old) {
-    memset(&lent, old, sizeof lent);
-    must(finaruvom_open(&lent, id, sizeof id) == FINARUVOM_ACCEPTED && memcmp(&lent, &fresh, sizeof lent) == 0, "a fresh book depends on what stood there");
+static void opened(const char *what) {
+    must(finaruvom_open(&lent, id, sizeof id) == FINARUVOM_ACCEPTED && memcmp(&lent, &fresh, sizeof lent) == 0, what);
 }
 
 int main(int argc, char **argv) {
-    must(argc == 2, "stored LAYOUT-1");
-    load(argv[1]);
+    must(argc == 2, "stored FOLDER");
     must(finaruvom_open(&fresh, id, sizeof id) == FINARUVOM_ACCEPTED, "an opening was refused");
-    lent = older;
-    refused("a book of the first layout was taken");
+    for (unsigned layout = 1; layout < FINARUVOM_LAYOUT; layout++) {
+        load(argv[1], layout);
+        lent = stored;
+        refused("a book of an older layout was taken");
+        opened("an opening left bytes of an older book");
+    }
+    load(argv[1], FINARUVOM_LAYOUT);
+    as_written();
     for (uint64_t number = 0; number < 256; number++) {
-        lent = fresh;
+        lent = stored;
         lent.mark = (lent.mark & ~(uint64_t)255) | number;
         if (number != FINARUVOM_LAYOUT)
             refused("a book of another layout was taken");
     }
-    lent = older;
-    must(finaruvom_open(&lent, id, sizeof id) == FINARUVOM_ACCEPTED && memcmp(&lent, &fresh, sizeof lent) == 0, "an opening left bytes of the older book");
-    for (int old = 0; old < 256; old++)
-        opened_over((uint8_t)old);
-    puts("ok: books of other layouts are answered with 99, and an opening over any bytes leaves the same ones");
+    for (int old = 0; old < 256; old++) {
+        memset(&lent, old, sizeof lent);
+        opened("a fresh book depends on what stood there");
+    }
+    puts("ok: this layout's book is read as written, those of others are answered with 99, and an opening over any bytes leaves the same ones");
     return 0;
 }

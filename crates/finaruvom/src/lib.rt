@@ -9,6 +9,7 @@ use machine::LAYOUT;
 ghost use mathlib.Core.Path.{_≡_};
 ghost use Rattle.sha256.specs.Answer.{hashAnswer};
 ghost use Rattle.lms.specs.Check.{checkOf};
+ghost use Rattle.machine.specs.Format.{size};
 ghost use Rattle.machine.specs.Book.{layout, opening, reading};
 ghost use Rattle.machine.specs.Due.{due};
 ghost use Rattle.machine.specs.Real.{realStep};
@@ -74,6 +75,14 @@ pub extern "C" fn finaruvom_check(
     *verdict = checked.verdict;
     *steps = checked.steps;
     checked.refusal
+}
+
+// The whole length of the command that begins with this byte; 0 where it begins none.
+#[no_mangle]
+pub extern "C" fn finaruvom_size(first: u8) -> usize
+    ensures { λ r. ⌜ r ≡ size first ⌝ }
+{
+    arbiter::size_of(first)
 }
 
 // Makes any lent book fresh, with the id, and answers 0; an id that is not 16 bytes long gives 2 and keeps every value.

@@ -4,6 +4,8 @@
 //! signed have `message` too: what is signed, in the book with this id. Any operands can be
 //! written; the book decides.
 //!
+//! The signer of this example, `oracle`, is the one of `rust/oracle`, for tests and not for tills.
+//!
 //! ```
 //! use finaruvom::command::{Establish, FundCustomer, FundMerchant, MutualClose, Signatures};
 //! use finaruvom::{Book, Cents, Payments, Refusal};
@@ -43,6 +45,7 @@ mod clock;
 mod closing;
 mod ending;
 mod funding;
+mod size;
 mod writer;
 
 use crate::sizes::SIGNATURE_SIZE;
@@ -51,6 +54,7 @@ pub use clock::SetClock;
 pub use closing::{CustomerClose, MerchantClose, MutualClose};
 pub use ending::{Dispute, Settle};
 pub use funding::{Establish, FundCustomer, FundMerchant, Reclaim};
+pub use size::size;
 
 /// The signatures of a command that both sides sign; each is of the same message.
 #[derive(Clone, Copy, Debug)]

@@ -24,6 +24,9 @@ numbered! {
 }
 
 /// A line of a run: the answer to one command.
+///
+/// The default is the answer of an accepted command that paid nothing. Only as many lines as
+/// [`Ran::lines`] says are a run's; those behind keep what they held.
 #[repr(C)]
 #[derive(Clone, Copy, Debug, Default, PartialEq, Eq, Hash)]
 pub struct Line {

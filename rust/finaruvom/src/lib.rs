@@ -1,7 +1,7 @@
 //! The channel arbiter, proved: a safe wrapper around the archive that `rt staticlib finaruvom`
 //! makes.
 //!
-//! A customer (the paper's café) and a merchant (its bakery) pay deposits into a channel of a
+//! A customer, as a café, and a merchant, as its bakery, pay deposits into a channel of a
 //! [`Book`]. Commands, each a string of bytes that [`command`] makes, establish, fund, close,
 //! dispute and settle it. Every command gets an [`Answer`].
 //!
@@ -24,8 +24,8 @@
 //! `examples/life.rs` goes through the life of three channels, with real signatures.
 //!
 //! The crate does without the standard library and allocates nothing. A program that has no C
-//! library brings `memcpy` and `memset` for the archive. For a call of the library 32 KiB of stack
-//! are enough (the header says it of each), beside the books that the program holds there.
+//! library brings `memcpy` and `memset` for the archive. For every call 64 KiB of stack are
+//! enough where the program is optimised, the book that it makes included.
 #![no_std]
 #![deny(missing_docs)]
 

@@ -23,9 +23,9 @@ pub struct Party {
 #[repr(C)]
 #[derive(Clone, Copy, Debug, PartialEq, Eq, Hash)]
 pub struct Channel {
-    /// The paper's café.
+    /// The customer.
     pub customer: Party,
-    /// The paper's bakery.
+    /// The merchant.
     pub merchant: Party,
     /// The clock's second from which a closing may be settled.
     pub deadline: Seconds,

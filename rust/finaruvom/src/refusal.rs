@@ -15,7 +15,7 @@ numbered! {
     /// ```
     Refusal {
         Unknown = 1: "no first byte, or it is not 01 to 0A",
-        Length = 2: "the length of the command, id, message or stored book does not fit",
+        Length = 2: "the length of the command, id or message does not fit",
         Time = 3: "the time is before the clock or above 2^63 - 1",
         Channel = 4: "the channel is not below 64",
         Status = 5: "the channel's status does not allow it",

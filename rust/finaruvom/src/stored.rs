@@ -30,8 +30,8 @@ impl Book {
     ///
     /// let mut stored = *Book::open(&[7; 16])?.as_bytes();
     /// assert!(Book::from_bytes(&stored).is_ok());
-    /// assert_eq!(Book::from_bytes(&stored[1..]), Err(Refusal::Length));
-    /// // The first byte of the mark is the layout.
+    /// assert_eq!(Book::from_bytes(&stored[1..]), Err(Refusal::Unsound));
+    /// // The first byte is the layout.
     /// stored[0] = 1;
     /// assert_eq!(Book::from_bytes(&stored), Err(Refusal::Unsound));
     /// # Ok::<(), Refusal>(())
@@ -39,10 +39,10 @@ impl Book {
     ///
     /// # Errors
     ///
-    /// [`Refusal::Length`] where there are not [`BOOK_SIZE`] bytes. [`Refusal::Unsound`] where no
-    /// opening of this layout wrote them, or a value is out of range. Other damage does not show.
+    /// [`Refusal::Unsound`] where these are not the bytes of a sound book of this layout: another
+    /// length, no opening of this layout, or damage that shows. Damage to a key, for one, does not.
     pub fn from_bytes(bytes: &[u8]) -> Result<Book, Refusal> {
-        let bytes: &[u8; BOOK_SIZE] = bytes.try_into().map_err(|_| Refusal::Length)?;
+        let bytes: &[u8; BOOK_SIZE] = bytes.try_into().map_err(|_| Refusal::Unsound)?;
         // SAFETY: there are as many bytes as a book has, and any bytes are a book.
         let raw = unsafe { bytes.as_ptr().cast::<raw::Book>().read_unaligned() };
         let book = Book::from_raw(raw);

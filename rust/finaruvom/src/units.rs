@@ -59,7 +59,7 @@ unit! {
 }
 
 unit! {
-    /// A time in seconds from 1970-01-01.
+    /// A number of seconds: a time from 1970-01-01 on, or a span.
     ///
     /// ```
     /// use finaruvom::Seconds;

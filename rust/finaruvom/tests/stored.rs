@@ -1,6 +1,6 @@
 //! Books as bytes.
 use finaruvom::command::{Establish, FundCustomer, SetClock};
-use finaruvom::{raw, Book, Cause, Cents, Line, Ran, Refusal, Seconds, BOOK_SIZE};
+use finaruvom::{raw, Book, Cause, Cents, Line, Ran, Refusal, Seconds, Status, BOOK_SIZE};
 
 const ID: [u8; 16] = *b"the book's id 01";
 /// What every opening writes: the word and the layout.
@@ -128,9 +128,29 @@ fn wrong_lengths() {
     for length in near.chain([0, 1, 8, 12_320, 2 * BOOK_SIZE]) {
         let mut bytes = stored.clone();
         bytes.resize(length, 0);
-        assert_eq!(Book::from_bytes(&bytes), Err(Refusal::Length), "{length}");
+        assert_eq!(Book::from_bytes(&bytes), Err(Refusal::Unsound), "{length}");
     }
     assert!(Book::from_bytes(&stored).is_ok());
+}
+
+/// The books that versions wrote, one of each layout.
+#[test]
+fn written_by_versions() {
+    let former = include_bytes!("../../../tests/books/layout-1.bin");
+    assert_eq!(Book::from_bytes(former), Err(Refusal::Unsound));
+    let cut = Book::from_bytes(&former[..BOOK_SIZE]);
+    assert_eq!(cut, Err(Refusal::Unsound));
+
+    let book = Book::from_bytes(include_bytes!("../../../tests/books/layout-2.bin")).unwrap();
+    assert_eq!(book.clock(), Seconds(1_793_671_200));
+    let closing = book.read(2).unwrap();
+    assert_eq!(closing.status, Status::CustomerClosing);
+    assert_eq!(closing.deadline, Seconds(1_793_682_000));
+    assert_eq!(
+        (closing.total, closing.kept),
+        (Cents(55_000), Cents(20_000))
+    );
+    assert_eq!(book.due(), Some(2));
 }
 
 /// Asserts that every call refuses a book with these values and keeps them.

@@ -108,3 +108,11 @@ fn any_operands() {
         assert_eq!(built.message.is_empty(), matches!(opcode, 1..=4 | 10));
     }
 }
+
+#[test]
+fn sizes() {
+    for first in 0..=u8::MAX {
+        let size = finaruvom::command::size(first);
+        assert_eq!(size, oracle::length(first), "{first:02X}");
+    }
+}

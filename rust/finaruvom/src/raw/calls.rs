@@ -3,18 +3,35 @@ use super::{Answer, Book, Found, Line, Ran, Reading, Versions};
 
 extern "C" {
     /// The library's version and layout.
+    ///
+    /// # Safety
+    ///
+    /// Nothing is asked.
     pub fn finaruvom_version() -> Versions;
 
     /// The layout. The name carries its number, so that an archive of another layout does not link.
+    ///
+    /// # Safety
+    ///
+    /// Nothing is asked.
     #[must_use]
     pub fn finaruvom_layout_2() -> u32;
 
     /// Writes the digest of at most 65,536 bytes and answers 0; of more, zeros and 2.
+    ///
+    /// # Safety
+    ///
+    /// `n` bytes can be read, and 32 written to `digest`, which overlap none of them.
     #[must_use]
     pub fn finaruvom_hash(bytes: *const u8, n: usize, digest: *mut u8) -> u32;
 
     /// Writes verdict and chain steps and answers 0; for a message of more than 1,024 bytes no, 0
     /// and 2.
+    ///
+    /// # Safety
+    ///
+    /// As many bytes as each length says can be read. `verdict`, which holds false or true, and
+    /// `steps` can be written and overlap nothing else of the call.
     #[must_use]
     pub fn finaruvom_check(
         key: *const u8,
@@ -27,20 +44,49 @@ extern "C" {
         steps: *mut u32,
     ) -> u32;
 
+    /// The whole length of the command that begins with this byte; 0 where it begins none.
+    ///
+    /// # Safety
+    ///
+    /// Nothing is asked.
+    #[must_use]
+    pub fn finaruvom_size(first: u8) -> usize;
+
     /// Makes any lent book fresh and answers 0; an id that is not 16 bytes long gives 2.
+    ///
+    /// # Safety
+    ///
+    /// The book is aligned, can be written and overlaps nothing else; `id_n` bytes can be read.
     #[must_use]
     pub fn finaruvom_open(book: *mut Book, id: *const u8, id_n: usize) -> u32;
 
     /// Carries a command out on the lent book, or refuses it.
+    ///
+    /// # Safety
+    ///
+    /// The book is aligned, can be written and overlaps nothing else; `command_n` bytes can be read.
     pub fn finaruvom_apply(book: *mut Book, command: *const u8, command_n: usize) -> Answer;
 
     /// The reading of channel `n`.
+    ///
+    /// # Safety
+    ///
+    /// The book is aligned and can be read.
     pub fn finaruvom_read(book: *const Book, n: usize) -> Reading;
 
     /// The closing channel with the smallest deadline.
+    ///
+    /// # Safety
+    ///
+    /// The book is aligned and can be read.
     pub fn finaruvom_due(book: *const Book) -> Found;
 
     /// Runs a journal on the lent book, one line for each command.
+    ///
+    /// # Safety
+    ///
+    /// Book and `lines_n` lines are aligned, can be written and overlap nothing else;
+    /// `commands_n` bytes can be read.
     pub fn finaruvom_run(
         book: *mut Book,
         commands: *const u8,

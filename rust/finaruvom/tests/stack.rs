@@ -1,0 +1,36 @@
+//! Every call of the crate on a thread with the stack that its documentation names.
+use finaruvom::command::{SetClock, Settle};
+use finaruvom::{check, hash, Book, Line, Refusal, Seconds};
+use std::thread::Builder;
+
+const STACK: usize = 64 * 1_024;
+
+/// Everything that makes, changes or reads a book.
+fn calls() -> Result<(), Refusal> {
+    let mut book = Book::open(&[7; 16])?;
+    book.reopen(&[8; 16])?;
+    let clock = SetClock { time: Seconds(9) };
+    assert_eq!(book.apply(&clock.command()).refused(), None);
+    let mut lines = [Line::default(); 4];
+    let ran = book.run(&Settle { channel: 0 }.command(), &mut lines);
+    assert_eq!(ran.lines, 1);
+    assert_eq!(book.read(63)?.total.0, 0);
+    assert_eq!(book.due(), None);
+    assert_eq!(hash(&[0; 100])?.len(), 32);
+    assert!(!check(&[0; 56], &[], &[0; 1_452])?.good);
+    Ok(())
+}
+
+fn restores(stored: &[u8]) -> Result<Seconds, Refusal> {
+    Ok(Book::from_bytes(stored)?.clock())
+}
+
+#[test]
+fn small_stacks() {
+    let stored = Book::open(&[7; 16]).unwrap().as_bytes().to_vec();
+    let thread = || Builder::new().stack_size(STACK);
+    let made = thread().spawn(calls).unwrap();
+    assert_eq!(made.join().unwrap(), Ok(()));
+    let restored = thread().spawn(move || restores(&stored)).unwrap();
+    assert_eq!(restored.join().unwrap(), Ok(Seconds(0)));
+}
