@@ -150,7 +150,7 @@ static size_t stack_of(void (*call)(void)) {
 }
 
 static int wrong;
-// What the dynamic linker takes in a first call, to find memcpy.
+// What the dynamic linker takes in a first call, to find memcpy: by an opening, which calls it from its deepest frame.
 static size_t binding;
 
 // Makes the call, prints what it took, and holds it to the limits: two books copied and little else for each of its `turns`, and the bytes of
@@ -182,8 +182,8 @@ static bool answered_0(void) {
 }
 
 int main(void) {
-    size_t first = stack_of(hash);
-    binding = first - stack_of(hash);
+    size_t first = stack_of(open_book);
+    binding = first - stack_of(open_book);
     printf("a first call takes %zu bytes of stack more\n", binding);
     for (size_t i = 0; i < sizeof rows / sizeof rows[0]; i++) {
         const struct row *row = &rows[i];
