@@ -34,9 +34,9 @@ extern "C" {
 
 // The version that this header belongs to, and the number of the book's layout, which the mark of every book carries.
 #define FINARUVOM_VERSION_MAJOR 0
-#define FINARUVOM_VERSION_MINOR 9
+#define FINARUVOM_VERSION_MINOR 10
 #define FINARUVOM_VERSION_PATCH 0
-#define FINARUVOM_LAYOUT 2
+#define FINARUVOM_LAYOUT 3
 
 // Sizes in bytes, and the number of channels.
 #define FINARUVOM_ID_SIZE 16
@@ -46,13 +46,21 @@ extern "C" {
 #define FINARUVOM_CHANNELS 64
 #define FINARUVOM_PARTY_SIZE 64
 #define FINARUVOM_CHANNEL_SIZE 184
-#define FINARUVOM_BOOK_SIZE 11808
+#define FINARUVOM_SETUP_SIZE 8
+#define FINARUVOM_BOOK_SIZE 11816
+#define FINARUVOM_SETTINGS_SIZE 4
 #define FINARUVOM_ANSWER_SIZE 24
 #define FINARUVOM_LINE_SIZE 24
 #define FINARUVOM_READING_SIZE 72
 #define FINARUVOM_FOUND_SIZE 2
 #define FINARUVOM_RAN_SIZE 24
 #define FINARUVOM_VERSIONS_SIZE 16
+
+// Delays in seconds: the shortest and the longest, and what a delay of 0 stands for in a book of the plain opening and in a new one of the desk.
+#define FINARUVOM_SHORTEST_DELAY 3600
+#define FINARUVOM_LONGEST_DELAY 2592000
+#define FINARUVOM_PLAIN_DELAY 86400
+#define FINARUVOM_DESK_DELAY 172800
 
 // Bytes of stack that are enough for a call, the dynamic linker's part in a first call included.
 #define FINARUVOM_STACK_HASH 8192
@@ -69,6 +77,7 @@ enum finaruvom_refusal {
     FINARUVOM_UNSOUND = 99, // the lent book is of no opening or another layout, or a value is out of range
     FINARUVOM_UNKNOWN = 1,  // no first byte, or it is no command
     FINARUVOM_LENGTH = 2,
+    FINARUVOM_DEFAULT = 14, // the default delay given at an opening is out of range
     FINARUVOM_TIME = 3,     // before the clock, or above 2^63 - 1
     FINARUVOM_CHANNEL = 4,  // not below 64
     FINARUVOM_STATUS = 5,   // the channel's status does not allow it
@@ -115,11 +124,22 @@ struct finaruvom_channel {
     uint8_t lock[FINARUVOM_DIGEST_SIZE];
 };
 
+// What a book keeps of its opening: the default delay, which a 0 in command 02 stands for.
+struct finaruvom_setup {
+    uint64_t delay;
+};
+
 struct finaruvom_book {
     uint64_t mark;
     uint8_t id[FINARUVOM_ID_SIZE];
+    struct finaruvom_setup setup;
     uint64_t clock;
     struct finaruvom_channel channels[FINARUVOM_CHANNELS];
+};
+
+// What an opening is given: the default delay. Start from the plain or the desk's settings: later versions may have more fields.
+struct finaruvom_settings {
+    uint32_t delay;
 };
 
 // What a command answers: what it paid to each side, the chain steps of its signature checks, and the refusal, or 0.
@@ -169,7 +189,9 @@ struct finaruvom_versions {
 
 FINARUVOM_ASSERT(sizeof(struct finaruvom_party) == FINARUVOM_PARTY_SIZE, "party");
 FINARUVOM_ASSERT(sizeof(struct finaruvom_channel) == FINARUVOM_CHANNEL_SIZE, "channel");
+FINARUVOM_ASSERT(sizeof(struct finaruvom_setup) == FINARUVOM_SETUP_SIZE, "setup");
 FINARUVOM_ASSERT(sizeof(struct finaruvom_book) == FINARUVOM_BOOK_SIZE, "book");
+FINARUVOM_ASSERT(sizeof(struct finaruvom_settings) == FINARUVOM_SETTINGS_SIZE, "settings");
 FINARUVOM_ASSERT(sizeof(struct finaruvom_answer) == FINARUVOM_ANSWER_SIZE, "answer");
 FINARUVOM_ASSERT(sizeof(struct finaruvom_line) == FINARUVOM_LINE_SIZE, "line");
 FINARUVOM_ASSERT(sizeof(struct finaruvom_reading) == FINARUVOM_READING_SIZE, "reading");
@@ -181,8 +203,8 @@ FINARUVOM_ASSERT(sizeof(struct finaruvom_versions) == FINARUVOM_VERSIONS_SIZE, "
 struct finaruvom_versions finaruvom_version(void);
 
 // The layout. Its name carries the number and every program refers to it, so that one does not link with a library of another layout.
-uint32_t finaruvom_layout_2(void);
-FINARUVOM_KEPT static uint32_t (*const finaruvom_linked_layout)(void) = finaruvom_layout_2;
+uint32_t finaruvom_layout_3(void);
+FINARUVOM_KEPT static uint32_t (*const finaruvom_linked_layout)(void) = finaruvom_layout_3;
 
 // The SHA-256 digest of at most 65,536 bytes, and 0; of more, zeros and 2.
 // Duties: bytes not null, shared; digest not null, 32 bytes, alone; stack FINARUVOM_STACK_HASH.
@@ -197,9 +219,21 @@ FINARUVOM_CALL uint32_t finaruvom_check(const uint8_t *key, size_t key_n, const 
 // The whole length of the command that begins with this byte; 0 where it begins none. No duties.
 size_t finaruvom_size(uint8_t first);
 
-// Makes any lent book fresh, with the id, and answers 0; an id that is not 16 bytes long gives 2 and keeps every value.
+// What the plain opening is given: the default delay is FINARUVOM_PLAIN_DELAY. No duties.
+struct finaruvom_settings finaruvom_plain_settings(void);
+
+// What the desk gives for a new book: the default delay is FINARUVOM_DESK_DELAY. No duties.
+struct finaruvom_settings finaruvom_desk_settings(void);
+
+// The plain opening: makes any lent book fresh, with the id and the plain settings, and answers 0; an id that is not 16 bytes long gives 2 and keeps
+// every value.
 // Duties: book not null, aligned, alone; id not null, shared; stack FINARUVOM_STACK_OPEN.
 FINARUVOM_CALL uint32_t finaruvom_open(struct finaruvom_book *book, const uint8_t *id, size_t id_n);
+
+// The same with these settings: after the id, a default delay that is not FINARUVOM_SHORTEST_DELAY to FINARUVOM_LONGEST_DELAY gives 14 and keeps every
+// value.
+// Duties: book not null, aligned, alone; id not null, shared; stack FINARUVOM_STACK_OPEN.
+FINARUVOM_CALL uint32_t finaruvom_open_with(struct finaruvom_book *book, const uint8_t *id, size_t id_n, struct finaruvom_settings settings);
 
 // Carries a command out on the lent book, or refuses it and keeps every value. The book is written also where it is refused, with what stood there.
 // Duties: book not null, aligned, alone; command not null, shared; stack FINARUVOM_STACK_APPLY.

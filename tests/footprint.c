@@ -110,6 +110,17 @@ static void open_book(void) {
     answer.refusal = finaruvom_open(&book, id, 16);
 }
 
+// An opening with the desk's default, and one whose default is refused.
+static void open_desk_book(void) {
+    static const uint8_t id[16] = {9};
+    answer.refusal = finaruvom_open_with(&book, id, 16, finaruvom_desk_settings());
+}
+
+static void open_without_default(void) {
+    static const uint8_t id[16] = {9};
+    answer = (struct finaruvom_answer){.refusal = finaruvom_open_with(&book, id, 16, (struct finaruvom_settings){0})};
+}
+
 static void read_channel(void) {
     answer.refusal = finaruvom_read(&book, N).refusal;
 }
@@ -203,5 +214,8 @@ int main(void) {
     measure("read", read_channel, answered_0, 1, FINARUVOM_STACK_READ);
     measure("due", due, answered_0, 1, FINARUVOM_STACK_DUE);
     measure("open", open_book, answered_0, 1, FINARUVOM_STACK_OPEN);
+    measure("open with settings", open_desk_book, answered_0, 1, FINARUVOM_STACK_OPEN);
+    refusal = 14;
+    measure("open refused with 14", open_without_default, refused, 1, FINARUVOM_STACK_OPEN);
     return wrong;
 }

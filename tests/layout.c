@@ -9,7 +9,9 @@
 SIZE(party, 64); AT(party, key, 0); AT(party, deposit, 56);
 SIZE(channel, 184); AT(channel, customer, 0); AT(channel, merchant, 64); AT(channel, deadline, 128); AT(channel, kept, 136);
 AT(channel, delay, 144); AT(channel, status, 148); AT(channel, lock, 152);
-SIZE(book, 11808); AT(book, mark, 0); AT(book, id, 8); AT(book, clock, 24); AT(book, channels, 32);
+SIZE(setup, 8); AT(setup, delay, 0);
+SIZE(book, 11816); AT(book, mark, 0); AT(book, id, 8); AT(book, setup, 24); AT(book, clock, 32); AT(book, channels, 40);
+SIZE(settings, 4); AT(settings, delay, 0);
 SIZE(answer, 24); AT(answer, customer, 0); AT(answer, merchant, 8); AT(answer, steps, 16); AT(answer, refusal, 20);
 SIZE(line, 24); AT(line, answer, 0);
 SIZE(reading, 72); AT(reading, total, 0); AT(reading, held, 8); AT(reading, deadline, 16); AT(reading, kept, 24);
@@ -24,7 +26,9 @@ SIZE(versions, 16); AT(versions, major, 0); AT(versions, minor, 4); AT(versions,
 FILLED(party, OF(party, key) + OF(party, deposit));
 FILLED(channel, OF(channel, customer) + OF(channel, merchant) + OF(channel, deadline) + OF(channel, kept) + OF(channel, delay) +
                     OF(channel, status) + OF(channel, lock));
-FILLED(book, OF(book, mark) + OF(book, id) + OF(book, clock) + OF(book, channels));
+FILLED(setup, OF(setup, delay));
+FILLED(book, OF(book, mark) + OF(book, id) + OF(book, setup) + OF(book, clock) + OF(book, channels));
+FILLED(settings, OF(settings, delay));
 FILLED(answer, OF(answer, customer) + OF(answer, merchant) + OF(answer, steps) + OF(answer, refusal));
 FILLED(line, OF(line, answer));
 FILLED(reading, OF(reading, total) + OF(reading, held) + OF(reading, deadline) + OF(reading, kept) + OF(reading, refusal) +
@@ -79,25 +83,75 @@ static void opened(void) {
     same("each byte of a fresh book", &book, 0, &other, sizeof book);
     number("mark", &book, 0, 0x6172626974657200 + FINARUVOM_LAYOUT, 8);
     same("id", &book, 8, id, 16);
-    number("clock", &book, 24, 0, 8);
+    number("the plain default", &book, 24, 86400, 8);
+    number("clock", &book, 32, 0, 8);
     memset(&other, 0, sizeof other);
-    same("a channel's zeros", &book, 32, &other, sizeof book - 32);
+    same("a channel's zeros", &book, 40, &other, sizeof book - 40);
 }
 
-// A clock command and an 02 for channel 3.
-static void established(void) {
-    uint8_t clock[9] = {1}, s[135] = {2, 0, 3};
-    big_endian(clock + 1, 0x0123456789ABCDEF, 8);
-    answers("a clock command", finaruvom_apply(&book, clock, sizeof clock).refusal, 0);
-    number("clock", &book, 24, 0x0123456789ABCDEF, 8);
+// An 02 for channel 3, with this delay.
+static void establish(uint8_t s[135], uint32_t delay) {
+    s[0] = 2, s[1] = 0, s[2] = 3;
     for (int i = 3; i < 115; i++)
         s[i] = (uint8_t)i;
     for (int key = 3; key <= 59; key += 56)
         big_endian(s + key, 6, 4), big_endian(s + key + 4, 4, 4);
-    big_endian(s + 115, 900, 8), big_endian(s + 123, 100, 8), big_endian(s + 131, 3601, 4);
+    big_endian(s + 115, 900, 8), big_endian(s + 123, 100, 8), big_endian(s + 131, delay, 4);
+}
+
+// An opening of the book, whatever stands there, with this default delay.
+static uint32_t open_with(size_t id_n, uint32_t delay) {
+    static const uint8_t id[16] = {9};
+    struct finaruvom_settings settings = finaruvom_plain_settings();
+    settings.delay = delay;
+    return finaruvom_open_with(&book, id, id_n, settings);
+}
+
+// A default in range stands in the fresh book, and is the delay of an 02 that has 0.
+static void opened_with(uint32_t delay) {
+    uint8_t s[135];
+    memset(&book, 0xAA, sizeof book);
+    answers("an opening with a default in range", open_with(16, delay), 0);
+    number("the default given", &book, 24, delay, 8);
+    number("clock", &book, 32, 0, 8);
+    establish(s, 0);
+    answers("an 02 with a delay of 0", finaruvom_apply(&book, s, sizeof s).refusal, 0);
+    number("the default read", &book, 40 + 3 * 184 + 144, delay, 4);
+}
+
+// A refused opening leaves every byte of the lent book.
+static void not_opened(const char *what, size_t id_n, uint32_t delay, uint32_t refusal) {
+    static struct finaruvom_book before;
+    memset(&book, 0xAA, sizeof book);
+    memset(&before, 0xAA, sizeof before);
+    answers(what, open_with(id_n, delay), refusal);
+    same("each byte of a book that was not opened", &book, 0, &before, sizeof book);
+}
+
+// The settings of the library, and openings with a default in and out of its range.
+static void settings(void) {
+    static const uint32_t taken[] = {3600, 2592000, 172800, 86400}, refused[] = {3599, 2592001, 0, 0xFFFFFFFF};
+    struct finaruvom_settings plain = finaruvom_plain_settings(), desk = finaruvom_desk_settings();
+    number("the plain settings", &plain, 0, 86400, 4);
+    number("the desk's settings", &desk, 0, 172800, 4);
+    for (int i = 0; i < 4; i++) {
+        opened_with(taken[i]);
+        not_opened("an opening with a default out of range", 16, refused[i], 14);
+        not_opened("an opening with a short id and a default out of range", 15, refused[i], 2);
+        not_opened("an opening with a long id", 17, taken[i], 2);
+    }
+}
+
+// A clock command and an 02 for channel 3.
+static void established(void) {
+    uint8_t clock[9] = {1}, s[135];
+    big_endian(clock + 1, 0x0123456789ABCDEF, 8);
+    answers("a clock command", finaruvom_apply(&book, clock, sizeof clock).refusal, 0);
+    number("clock", &book, 32, 0x0123456789ABCDEF, 8);
+    establish(s, 3601);
     struct finaruvom_answer answer = finaruvom_apply(&book, s, sizeof s);
     number("refusal", &answer, 20, 0, 4);
-    const size_t at = 32 + 3 * 184;
+    const size_t at = 40 + 3 * 184;
     same("the customer's key", &book, at, s + 3, 56);
     number("the customer's deposit", &book, at + 56, 900, 8);
     same("the merchant's key", &book, at + 64, s + 59, 56);
@@ -135,6 +189,7 @@ static void closing(void) {
 
 int main(void) {
     version();
+    settings();
     opened();
     established();
     closing();

@@ -15,18 +15,25 @@ static void must(bool holds, const char *what) {
     }
 }
 
-// The first bytes of the book of a layout, as a desk would read them that did not look at the file's length.
+// Bytes of a book by its layout.
+static const size_t sizes[] = {0, 12320, 11808, 11816};
+_Static_assert(sizeof sizes / sizeof sizes[0] == FINARUVOM_LAYOUT + 1, "a size for each layout");
+
+// The first bytes of the book of a layout, as a desk would read them that did not look at the file's length; zeros behind a shorter one.
 static void load(const char *folder, unsigned layout) {
     char path[4096];
+    size_t n = sizes[layout] < sizeof stored ? sizes[layout] : sizeof stored;
     snprintf(path, sizeof path, "%s/layout-%u.bin", folder, layout);
+    memset(&stored, 0, sizeof stored);
     FILE *file = fopen(path, "rb");
-    must(file != NULL && fread(&stored, 1, sizeof stored, file) == sizeof stored && fclose(file) == 0, "no book of a layout");
+    must(file != NULL && fread(&stored, 1, sizeof stored, file) == n && fclose(file) == 0, "no book of a layout");
 }
 
 // Channel 1 was disputed, and in channel 2 the customer answered the merchant's closing.
 static void as_written(void) {
     struct finaruvom_reading disputed = finaruvom_read(&stored, 1), closing = finaruvom_read(&stored, 2);
     must(memcmp(stored.id, "Mill Lane Bakery", sizeof stored.id) == 0 && stored.clock == 1793671200, "this layout's book has another id or clock");
+    must(stored.setup.delay == 86400 && stored.channels[1].delay == 86400, "this layout's book has another default, or channel 1 another delay");
     must(disputed.refusal == FINARUVOM_ACCEPTED && disputed.status == FINARUVOM_CLOSED && disputed.total == 100000, "channel 1 is read otherwise");
     must(closing.status == FINARUVOM_CUSTOMER_CLOSING && closing.total == 55000 && closing.held == 20000 && closing.kept == 20000 &&
              closing.deadline == 1793682000 && closing.lock[0] == 0x58 && closing.lock[31] == 0xdf,
@@ -48,11 +55,27 @@ static void refused(const char *what) {
     struct finaruvom_ran ran = finaruvom_run(&lent, clock_command, sizeof clock_command, lines, 2);
     must(ran.lines == 1 && lines[0].answer.refusal == FINARUVOM_UNSOUND && memcmp(&lines[1], &unwritten, sizeof unwritten) == 0, what);
     must(finaruvom_open(&lent, id, sizeof id - 1) == FINARUVOM_LENGTH, what);
+    must(finaruvom_open_with(&lent, id, sizeof id, (struct finaruvom_settings){0}) == FINARUVOM_DEFAULT, what);
     must(memcmp(&before, &lent, sizeof lent) == 0, what);
 }
 
 static void opened(const char *what) {
     must(finaruvom_open(&lent, id, sizeof id) == FINARUVOM_ACCEPTED && memcmp(&lent, &fresh, sizeof lent) == 0, what);
+}
+
+// A default out of range makes a book unsound, also one whose low half is in range; at the edges of the range it does not.
+static void defaults(void) {
+    static const uint64_t wrong[] = {0, 3599, 2592001, UINT32_MAX, ((uint64_t)1 << 32) + 86400, (uint64_t)1 << 63, UINT64_MAX};
+    static const uint64_t right[] = {3600, 172800, 2592000};
+    lent = stored;
+    for (size_t i = 0; i < sizeof wrong / sizeof wrong[0]; i++) {
+        lent.setup.delay = wrong[i];
+        refused("a book with a default out of range was taken");
+    }
+    for (size_t i = 0; i < sizeof right / sizeof right[0]; i++) {
+        lent.setup.delay = right[i];
+        must(finaruvom_read(&lent, 0).refusal == FINARUVOM_ACCEPTED && finaruvom_due(&lent).some, "a book with a default in range was not taken");
+    }
 }
 
 int main(int argc, char **argv) {
@@ -66,6 +89,7 @@ int main(int argc, char **argv) {
     }
     load(argv[1], FINARUVOM_LAYOUT);
     as_written();
+    defaults();
     for (uint64_t number = 0; number < 256; number++) {
         lent = stored;
         lent.mark = (lent.mark & ~(uint64_t)255) | number;
@@ -76,6 +100,6 @@ int main(int argc, char **argv) {
         memset(&lent, old, sizeof lent);
         opened("a fresh book depends on what stood there");
     }
-    puts("ok: this layout's book is read as written, those of others are answered with 99, and an opening over any bytes leaves the same ones");
+    puts("ok: this layout's book is read as written, those of others or with another default are answered with 99, and an opening over any bytes leaves the same");
     return 0;
 }

@@ -9,6 +9,7 @@ use holdings::sums_to;
 use holdings::total_of;
 use machine::Cents;
 use machine::Channel;
+use machine::Context;
 use machine::Ruled;
 use machine::Seconds;
 use wire::digest_at;
@@ -25,9 +26,9 @@ ghost use Rattle.machine.specs.Machine.{ruling, verdict};
 ghost use Rattle.machine.specs.Real.{lmsVerdict};
 
 // 06
-pub fn mutual_close(ch: Channel, id: [u8; 16], command: &[u8]) -> Ruled
+pub fn mutual_close(ch: Channel, at: Context, command: &[u8]) -> Ruled
     requires { ⌜ (soundChannel ch ≡ true) × (length (now command) ≡ 2923) ⌝ }
-    ensures { λ r. ⌜ r ≡ ruling ch (mutualClose (customerPart 6 (now (command .entry))) (merchantPart 6 (now (command .entry))) (verdict lmsVerdict (ch .merchant .key) id (now (command .entry)) 19 19) (verdict lmsVerdict (ch .customer .key) id (now (command .entry)) 19 1471) ch) ⌝ }
+    ensures { λ r. ⌜ r ≡ ruling ch (mutualClose (customerPart 6 (now (command .entry))) (merchantPart 6 (now (command .entry))) (verdict lmsVerdict (ch .merchant .key) (at .id) (now (command .entry)) 19 19) (verdict lmsVerdict (ch .customer .key) (at .id) (now (command .entry)) 19 1471) ch) ⌝ }
 {
     let customer_key = ch.customer.key;
     let merchant_key = ch.merchant.key;
@@ -35,8 +36,8 @@ pub fn mutual_close(ch: Channel, id: [u8; 16], command: &[u8]) -> Ruled
     let merchant = Cents(u64_at(command, 11));
     let j = tested(unjudged(), 5, ch.status == 3);
     let j = tested(j, 8, sums_to(customer, merchant, total_of(ch)));
-    let j = signature_tested(j, 11, merchant_key, id, command, 19, 19);
-    let j = signature_tested(j, 12, customer_key, id, command, 19, 1471);
+    let j = signature_tested(j, 11, merchant_key, at.id, command, 19, 19);
+    let j = signature_tested(j, 12, customer_key, at.id, command, 19, 1471);
     let mut after = ch;
     after.status = 6;
     ruled(j, ch, after, customer, merchant)
@@ -50,9 +51,9 @@ fn deadline_from(clock: Seconds, delay: u32) -> Seconds
 }
 
 // 07
-pub fn customer_close(ch: Channel, id: [u8; 16], clock: Seconds, command: &[u8]) -> Ruled
-    requires { ⌜ (soundChannel ch ≡ true) × (clock .0 ≤ limit) × (length (now command) ≡ 2955) ⌝ }
-    ensures { λ r. ⌜ r ≡ ruling ch (customerClose (clock .0) (lock (now (command .entry))) (customerPart 7 (now (command .entry))) (merchantPart 7 (now (command .entry))) (verdict lmsVerdict (ch .merchant .key) id (now (command .entry)) 51 51) (verdict lmsVerdict (ch .customer .key) id (now (command .entry)) 51 1503) ch) ⌝ }
+pub fn customer_close(ch: Channel, at: Context, command: &[u8]) -> Ruled
+    requires { ⌜ (soundChannel ch ≡ true) × (at .clock .0 ≤ limit) × (length (now command) ≡ 2955) ⌝ }
+    ensures { λ r. ⌜ r ≡ ruling ch (customerClose at (lock (now (command .entry))) (customerPart 7 (now (command .entry))) (merchantPart 7 (now (command .entry))) (verdict lmsVerdict (ch .merchant .key) (at .id) (now (command .entry)) 51 51) (verdict lmsVerdict (ch .customer .key) (at .id) (now (command .entry)) 51 1503) ch) ⌝ }
 {
     let customer_key = ch.customer.key;
     let merchant_key = ch.merchant.key;
@@ -60,11 +61,11 @@ pub fn customer_close(ch: Channel, id: [u8; 16], clock: Seconds, command: &[u8])
     let merchant = Cents(u64_at(command, 43));
     let j = tested(unjudged(), 5, (ch.status == 3) | (ch.status == 4));
     let j = tested(j, 8, sums_to(customer, merchant, total_of(ch)));
-    let j = tested(j, 9, (ch.status == 3) | (clock.0 < ch.deadline.0));
-    let j = signature_tested(j, 11, merchant_key, id, command, 51, 51);
-    let j = signature_tested(j, 12, customer_key, id, command, 51, 1503);
+    let j = tested(j, 9, (ch.status == 3) | (at.clock.0 < ch.deadline.0));
+    let j = signature_tested(j, 11, merchant_key, at.id, command, 51, 51);
+    let j = signature_tested(j, 12, customer_key, at.id, command, 51, 1503);
     let lock = digest_at(command, 3);
-    let deadline = deadline_from(clock, ch.delay);
+    let deadline = deadline_from(at.clock, ch.delay);
     let mut after = ch;
     after.status = 5;
     after.deadline = deadline;
@@ -74,14 +75,14 @@ pub fn customer_close(ch: Channel, id: [u8; 16], clock: Seconds, command: &[u8])
 }
 
 // 08
-pub fn merchant_close(ch: Channel, id: [u8; 16], clock: Seconds, command: &[u8]) -> Ruled
-    requires { ⌜ (clock .0 ≤ limit) × (length (now command) ≡ 1455) ⌝ }
-    ensures { λ r. ⌜ r ≡ ruling ch (merchantClose (clock .0) (verdict lmsVerdict (ch .merchant .key) id (now (command .entry)) 3 3) ch) ⌝ }
+pub fn merchant_close(ch: Channel, at: Context, command: &[u8]) -> Ruled
+    requires { ⌜ (at .clock .0 ≤ limit) × (length (now command) ≡ 1455) ⌝ }
+    ensures { λ r. ⌜ r ≡ ruling ch (merchantClose at (verdict lmsVerdict (ch .merchant .key) (at .id) (now (command .entry)) 3 3) ch) ⌝ }
 {
     let key = ch.merchant.key;
     let j = tested(unjudged(), 5, ch.status == 3);
-    let j = signature_tested(j, 11, key, id, command, 3, 3);
-    let deadline = deadline_from(clock, ch.delay);
+    let j = signature_tested(j, 11, key, at.id, command, 3, 3);
+    let deadline = deadline_from(at.clock, ch.delay);
     let mut after = ch;
     after.status = 4;
     after.deadline = deadline;
@@ -89,28 +90,28 @@ pub fn merchant_close(ch: Channel, id: [u8; 16], clock: Seconds, command: &[u8])
 }
 
 // 09
-pub fn dispute(ch: Channel, id: [u8; 16], clock: Seconds, command: &[u8]) -> Ruled
+pub fn dispute(ch: Channel, at: Context, command: &[u8]) -> Ruled
     requires { ⌜ length (now command) ≡ 1487 ⌝ }
-    ensures { λ r. ⌜ r ≡ ruling ch (dispute (clock .0) (sha256 (secret (now (command .entry)))) (verdict lmsVerdict (ch .merchant .key) id (now (command .entry)) 35 35) ch) ⌝ }
+    ensures { λ r. ⌜ r ≡ ruling ch (dispute at (sha256 (secret (now (command .entry)))) (verdict lmsVerdict (ch .merchant .key) (at .id) (now (command .entry)) 35 35) ch) ⌝ }
 {
     let lock = ch.lock;
     let key = ch.merchant.key;
     let j = tested(unjudged(), 5, ch.status == 5);
-    let j = tested(j, 9, clock.0 < ch.deadline.0);
+    let j = tested(j, 9, at.clock.0 < ch.deadline.0);
     let j = secret_tested(j, lock, command);
-    let j = signature_tested(j, 11, key, id, command, 35, 35);
+    let j = signature_tested(j, 11, key, at.id, command, 35, 35);
     let mut after = ch;
     after.status = 6;
     ruled(j, ch, after, Cents(0), ch.kept)
 }
 
 // 0A
-pub fn settle(ch: Channel, clock: Seconds) -> Ruled
+pub fn settle(ch: Channel, at: Context) -> Ruled
     requires { ⌜ soundChannel ch ≡ true ⌝ }
-    ensures { λ r. ⌜ r ≡ ruling ch (settle (clock .0) ch) ⌝ }
+    ensures { λ r. ⌜ r ≡ ruling ch (settle at ch) ⌝ }
 {
     let j = tested(unjudged(), 5, (ch.status == 4) | (ch.status == 5));
-    let j = tested(j, 9, ch.deadline.0 <= clock.0);
+    let j = tested(j, 9, ch.deadline.0 <= at.clock.0);
     let mut after = ch;
     after.status = 6;
     let customer = cents_if(ch.status != 4, ch.kept);

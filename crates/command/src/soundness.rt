@@ -1,25 +1,27 @@
 // Whether a book is sound: any values may stand in a lent one.
+use holdings::delay_fits;
 use holdings::sound_channel;
 use machine::Book;
 use machine::LIMIT;
 use machine::MARK;
 use machine::Seconds;
+use machine::Setup;
 ghost use mathlib.Core.Path.{_≡_};
 ghost use mathlib.Core.Bool.{_&&_};
 ghost use lib.Dec.{eqb, leb};
-ghost use Rattle.machine.specs.Book.{limit, theMark, sound};
+ghost use Rattle.machine.specs.Book.{limit, theMark, soundSetup, sound};
 
 // What is asked of the book beside its channels.
-pub fn sound_header(mark: u64, clock: Seconds) -> bool
-    ensures { λ r. ⌜ r ≡ (eqb mark theMark && leb (clock .0) limit) ⌝ }
+pub fn sound_header(mark: u64, setup: Setup, clock: Seconds) -> bool
+    ensures { λ r. ⌜ r ≡ (eqb mark theMark && leb (clock .0) limit && soundSetup setup) ⌝ }
 {
-    (mark == MARK) & (clock.0 <= LIMIT)
+    (mark == MARK) & (clock.0 <= LIMIT) & delay_fits(setup.delay)
 }
 
 pub fn sound(book: Book) -> bool
     ensures { λ r. ⌜ r ≡ sound book ⌝ }
 {
-    let mut ok = sound_header(book.mark, book.clock);
+    let mut ok = sound_header(book.mark, book.setup, book.clock);
     for i in 0..64 {
         let ch = book.channels[i];
         ok = ok & sound_channel(ch);

@@ -8,6 +8,7 @@ use holdings::sound_channel;
 use machine::Answer;
 use machine::Book;
 use machine::Cents;
+use machine::Context;
 use machine::Judged;
 use machine::LIMIT;
 use machine::Seconds;
@@ -81,7 +82,7 @@ fn set_clock(clock: Seconds, time: u64) -> Clocked
 pub fn step(mut book: Book, command: &[u8]) -> Stepped
     ensures { λ r. ⌜ r ≡ realStep book (now (command .entry)) ⌝ }
 {
-    let mut steady = sound_header(book.mark, book.clock);
+    let mut steady = sound_header(book.mark, book.setup, book.clock);
     for i in 0..64 {
         let ch = book.channels[i];
         steady = steady & sound_channel(ch);
@@ -99,7 +100,12 @@ pub fn step(mut book: Book, command: &[u8]) -> Stepped
             let n = u16_at(command, 1) as usize;
             if n < 64 {
                 let ch = book.channels[n];
-                let done = rule(op, ch, book.id, book.clock, command);
+                let at = Context {
+                    id: book.id,
+                    clock: book.clock,
+                    setup: book.setup,
+                };
+                let done = rule(op, ch, at, command);
                 let channel = done.channel;
                 book.channels[n] = channel;
                 answer = done.answer;

@@ -5,6 +5,7 @@ use checks::tested;
 use checks::unjudged;
 use machine::Cents;
 use machine::Channel;
+use machine::Context;
 use machine::Ruled;
 ghost use mathlib.Core.Path.{_≡_};
 ghost use mathlib.Core.Bool.{cond};
@@ -41,13 +42,13 @@ pub fn fund_merchant(ch: Channel, paid: Cents) -> Ruled
     ruled(j, ch, after, Cents(0), Cents(0))
 }
 
-pub fn reclaim(ch: Channel, id: [u8; 16], command: &[u8]) -> Ruled
+pub fn reclaim(ch: Channel, at: Context, command: &[u8]) -> Ruled
     requires { ⌜ length (now command) ≡ 1455 ⌝ }
-    ensures { λ r. ⌜ r ≡ ruling ch (reclaim (verdict lmsVerdict (ch .customer .key) id (now (command .entry)) 3 3) ch) ⌝ }
+    ensures { λ r. ⌜ r ≡ ruling ch (reclaim (verdict lmsVerdict (ch .customer .key) (at .id) (now (command .entry)) 3 3) ch) ⌝ }
 {
     let key = ch.customer.key;
     let j = tested(unjudged(), 5, ch.status == 2);
-    let j = signature_tested(j, 12, key, id, command, 3, 3);
+    let j = signature_tested(j, 12, key, at.id, command, 3, 3);
     let mut after = ch;
     after.status = 6;
     ruled(j, ch, after, ch.customer.deposit, Cents(0))

@@ -2,21 +2,23 @@
 use checks::ruled;
 use checks::tested;
 use checks::unjudged;
+use holdings::delay_fits;
 use holdings::total_fits;
 use lms::typed_key;
 use machine::Cents;
 use machine::Channel;
-use machine::LONGEST;
+use machine::Context;
 use machine::Party;
 use machine::Ruled;
-use machine::SHORTEST;
 use wire::key_at;
 use wire::same_key;
 use wire::u32_at;
 use wire::u64_at;
 ghost use mathlib.Core.Path.{_≡_};
+ghost use mathlib.Core.Bool.{true};
 ghost use lib.ListN.{length};
 ghost use Rattle.machine.specs.Format.{delay};
+ghost use Rattle.machine.specs.Book.{ranged, soundSetup};
 ghost use Rattle.machine.specs.Rules.{keyed, delayed, establish};
 ghost use Rattle.machine.specs.Machine.{customerOf, merchantOf, ruling};
 
@@ -27,39 +29,37 @@ fn keys_fit(customer: [u8; 56], merchant: [u8; 56]) -> bool
     typed_key(&customer) & typed_key(&merchant) & !same_key(customer, merchant)
 }
 
-// A delay of 0 stands for a day.
-fn delay_or_day(delay: u32) -> u32
-    ensures { λ r. ⌜ r ≡ delayed delay ⌝ }
+// A delay of 0 stands for the book's default.
+fn delay_or_default(default: u64, delay: u32) -> u32
+    requires { ⌜ ranged default ≡ true ⌝ }
+    ensures { λ r. ⌜ r ≡ delayed default delay ⌝ }
 {
-    if delay == 0 { 86400 } else { delay }
+    if delay == 0 { default as u32 } else { delay }
 }
 
-fn establish(ch: Channel, customer: Party, merchant: Party, delay: u32) -> Ruled
-    ensures { λ r. ⌜ r ≡ ruling ch (establish customer merchant delay ch) ⌝ }
+fn establish(ch: Channel, at: Context, customer: Party, merchant: Party, delay: u32) -> Ruled
+    requires { ⌜ soundSetup (at .setup) ≡ true ⌝ }
+    ensures { λ r. ⌜ r ≡ ruling ch (establish at customer merchant delay ch) ⌝ }
 {
     let customer_key = customer.key;
     let merchant_key = merchant.key;
     let fits = total_fits(customer.deposit, merchant.deposit);
     let j = tested(unjudged(), 5, ch.status == 0);
     let j = tested(j, 6, keys_fit(customer_key, merchant_key));
-    let j = tested(
-        j,
-        7,
-        (delay == 0) | ((SHORTEST <= delay) & (delay <= LONGEST)),
-    );
+    let j = tested(j, 7, (delay == 0) | delay_fits(delay as u64));
     let j = tested(j, 8, (1 <= customer.deposit.0) & fits);
     let mut after = ch;
     after.status = 1;
     after.customer = customer;
     after.merchant = merchant;
-    after.delay = delay_or_day(delay);
+    after.delay = delay_or_default(at.setup.delay, delay);
     ruled(j, ch, after, Cents(0), Cents(0))
 }
 
 // The rule at the operands of a command.
-pub fn establish_from(ch: Channel, command: &[u8]) -> Ruled
-    requires { ⌜ length (now command) ≡ 135 ⌝ }
-    ensures { λ r. ⌜ r ≡ ruling ch (establish (customerOf (now (command .entry))) (merchantOf (now (command .entry))) (delay (now (command .entry))) ch) ⌝ }
+pub fn establish_from(ch: Channel, at: Context, command: &[u8]) -> Ruled
+    requires { ⌜ (soundSetup (at .setup) ≡ true) × (length (now command) ≡ 135) ⌝ }
+    ensures { λ r. ⌜ r ≡ ruling ch (establish at (customerOf (now (command .entry))) (merchantOf (now (command .entry))) (delay (now (command .entry))) ch) ⌝ }
 {
     let customer = Party {
         key: key_at(command, 3),
@@ -69,5 +69,5 @@ pub fn establish_from(ch: Channel, command: &[u8]) -> Ruled
         key: key_at(command, 59),
         deposit: Cents(u64_at(command, 123)),
     };
-    establish(ch, customer, merchant, u32_at(command, 131))
+    establish(ch, at, customer, merchant, u32_at(command, 131))
 }

@@ -5,6 +5,7 @@ mod sums;
 
 pub use readings::read_channel;
 pub use readings::unread;
+pub use soundness::delay_fits;
 pub use soundness::sound_channel;
 pub use sums::cents_if;
 pub use sums::sums_to;

@@ -7,21 +7,22 @@ use native.Mathlib.Omega.{arith}
 use Rattle.wire.specs.Numbers.{u16At, u32At, u64At}
 use Rattle.wire.specs.Parts.{same}
 use Rattle.machine.specs.Format.{size, message}
-use Rattle.machine.specs.Book.{total, held, soundChannel, sound, blankBook, fresh, opening, readChannel, reading}
+use Rattle.machine.specs.Book.{total, held, soundChannel, sound, readChannel, reading}
 use Rattle.machine.specs.Checks.{ask}
+use Rattle.machine.specs.Opening.{blankBook, fresh, opening}
 use Rattle.machine.specs.Rules.{delayed, keyed, establish, fundCustomer, fundMerchant, reclaim, mutualClose, customerClose, merchantClose, dispute, settle}
 use Rattle.machine.specs.Machine.{answer, concluded, ruling, verdict, plan, step}
 use Rattle.machine.specs.Ledger.{Paid, nothing, paidBy, entryAt, clock, strings, sum, opcodes, member, tally, eventOf, paid, Timely, Disputes, after, Accounted}
-use Rattle.machine.proofs.Reached.{yes, plain, id, list, disputes, standing}
+use Rattle.machine.proofs.Reached.{yes, plain, opens, list, disputes, standing}
 use Rattle.machine.proofs.ThirdDemand.{third-demand}
 
 -- The claim of channel n, after a list given to the book just opened.
 abbrev AccountedAt : List (List ℕ) → ℕ → Type 0
-AccountedAt l n = Accounted yes plain id ((standing l) .book) ((standing l) .history) n (strings n ((standing l) .history))
+AccountedAt l n = Accounted yes plain opens ((standing l) .book) ((standing l) .history) n (strings n ((standing l) .history))
 
 accounted : (l : List (List ℕ)) (n : ℕ) → n < 64 → AccountedAt l n
-unfolding opening standing
-accounted l n p = third-demand yes plain blankBook id refl l n p
+unfolding opening ask standing
+accounted l n p = third-demand yes plain blankBook opens refl l n p
 
 abbrev pays : ℕ → ℕ → Paid
 pays customer merchant = record { customer = customer; merchant = merchant }
@@ -44,8 +45,8 @@ applied =
     let before = accounted list 5 (omega arith) in
     let after = accounted (list ++ disputes ∷ []) 5 (omega arith) in
     let both = accounted list 2 (omega arith) in
-    let timely : Timely (strings 5 ((standing list) .history)) (clock ((standing list) .history)) = record { closing = refl; undisputed = refl; unsettled = refl; early = omega arith } in
-    let disputing : Disputes yes plain id 5 (strings 5 ((standing list) .history)) disputes = record { code = refl; whole = refl; named = refl; opens = refl; good = refl } in
+    let timely : Timely opens (strings 5 ((standing list) .history)) (clock ((standing list) .history)) = record { closing = refl; undisputed = refl; unsettled = refl; early = omega arith } in
+    let disputing : Disputes yes plain opens 5 (strings 5 ((standing list) .history)) disputes = record { code = refl; whole = refl; named = refl; opens = refl; good = refl } in
     record {
       accepted = before .dispute timely disputes disputing;
       closing = before .conserved;

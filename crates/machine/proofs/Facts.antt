@@ -9,11 +9,12 @@ use borrow.Author.Tests.{le-leb}
 use Rattle.machine.specs.Book.{agreed, total, held, soundTerms, soundChannel}
 use Rattle.machine.specs.Ledger.{Event, deposits, sum, opcodes, member, has, closed, closings, paid, allMerchant, split}
 use Rattle.machine.specs.declared.state.Channel.{Channel}
+use Rattle.machine.specs.declared.state.Setup.{Setup}
 use Rattle.machine.proofs.Laws.{clash, and-make, or-right}
 use Rattle.machine.proofs.Life.{Lacks, unclosed, unanswered, running, unmatched, unfunded, TermsOf, Live, Leaving, StageAt}
 use Rattle.machine.proofs.Moves.{fewer, lacks-none, tally-none, total-at, held-at}
 
-pub record Facts (l : List Event) (c : Channel) : Type 0 where
+pub record Facts (x : Setup) (l : List Event) (c : Channel) : Type 0 where
   pub sound : soundChannel c ≡ true
   pub conserved : deposits l ≡ held c + (paid l) .customer + (paid l) .merchant
   pub closes : closed l ≡ eqb (c .status) 6
@@ -22,14 +23,14 @@ pub record Facts (l : List Event) (c : Channel) : Type 0 where
   pub either : (has 6 l && has 7 l) ≡ false
   pub single : closings l < 2
   pub begun : (k : ℕ) → has k l ≡ true → has 2 l ≡ true
-  pub timely : has 7 l ≡ true → has 9 l ≡ false → has 10 l ≡ false → (c .status ≡ 5) × Leaving l c
+  pub timely : has 7 l ≡ true → has 9 l ≡ false → has 10 l ≡ false → (c .status ≡ 5) × Leaving x l c
 
-module _ (l : List Event) (c : Channel) where
-  sound-of : TermsOf l c → leb (c .status) 6 ≡ true → (not (eqb (c .status) 5) || leb (c .kept .0) (agreed c)) ≡ true → soundChannel c ≡ true
+module _ (x : Setup) (l : List Event) (c : Channel) where
+  sound-of : TermsOf x l c → leb (c .status) 6 ≡ true → (not (eqb (c .status) 5) || leb (c .kept .0) (agreed c)) ≡ true → soundChannel c ≡ true
   unfolding soundChannel
   sound-of t p q = and-make p (or-right (eqb (c .status) 0) (soundTerms c) (and-make (and-make (le-leb _ _ (t .fits)) (and-make (le-leb _ _ (t .least)) (le-leb _ _ (t .most)))) q))
 
-  open-facts : Lacks unclosed l → ((k : ℕ) → has k l ≡ true → has 2 l ≡ true) → eqb (c .status) 6 ≡ false → soundChannel c ≡ true → deposits l ≡ held c + (paid l) .customer + (paid l) .merchant → (has 7 l ≡ true → (c .status ≡ 5) × Leaving l c) → Facts l c
+  open-facts : Lacks unclosed l → ((k : ℕ) → has k l ≡ true → has 2 l ≡ true) → eqb (c .status) 6 ≡ false → soundChannel c ≡ true → deposits l ≡ held c + (paid l) .customer + (paid l) .merchant → (has 7 l ≡ true → (c .status ≡ 5) × Leaving x l c) → Facts x l c
   unfolding member
   open-facts w v n s d t = record {
     sound = s;
@@ -43,11 +44,11 @@ module _ (l : List Event) (c : Channel) where
     single = omega (arith, tally-none 5 (opcodes l) (w 5 refl), tally-none 6 (opcodes l) (w 6 refl), tally-none 9 (opcodes l) (w 9 refl), tally-none 10 (opcodes l) (w 10 refl));
   }
 
-  live-facts : (ks : List ℕ) (d : ℕ) → Lacks unanswered l → Live ks d l c → leb (c .status) 6 ≡ true → eqb (c .status) 5 ≡ false → eqb (c .status) 6 ≡ false → held c ≡ d → Facts l c
+  live-facts : (ks : List ℕ) (d : ℕ) → Lacks unanswered l → Live x ks d l c → leb (c .status) 6 ≡ true → eqb (c .status) 5 ≡ false → eqb (c .status) 6 ≡ false → held c ≡ d → Facts x l c
   unfolding member
   live-facts ks d w g b n m h = open-facts (fewer 7 unclosed l w) (λ k _. g .terms .there) m (sound-of (g .terms) b (rw n)) (omega arith) (λ p. absurd (clash p (w 7 refl)))
 
-  pub stage-facts : (n : ℕ) → c .status ≡ n → StageAt l c n → Facts l c
+  pub stage-facts : (n : ℕ) → c .status ≡ n → StageAt x l c n → Facts x l c
   unfolding soundChannel held sum opcodes member
   stage-facts zero e g = open-facts (rw g (lacks-none unclosed)) (λ k p. let q : has k l ≡ false = rw g in absurd (clash p q)) (rw e) (rw e) (rw (e, g) (omega arith)) (λ p. let q : has 7 l ≡ false = rw g in absurd (clash p q))
   stage-facts (suc zero) e g = live-facts unfunded 0 (fewer 8 unanswered l (fewer 4 running l (fewer 3 unmatched l (g .lacks)))) g (rw e) (rw e) (rw e) (rw e)

@@ -17,6 +17,10 @@ and-both false b h = absurd (false≢true h)
 pub and-make : {a b : Bool} → a ≡ true → b ≡ true → (a && b) ≡ true
 and-make p q = rw (p, q)
 
+pub and-middle : (a b c : Bool) → b ≡ false → (a && b && c) ≡ false
+and-middle true b c h = rw h
+and-middle false b c h = refl
+
 pub or-neither : (a b : Bool) → (a || b) ≡ false → (a ≡ false) × (b ≡ false)
 or-neither true b h = absurd (true≢false h)
 or-neither false b h = (refl, h)

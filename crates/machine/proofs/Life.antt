@@ -9,6 +9,7 @@ use Rattle.machine.specs.Book.{limit, shortest, longest, agreed}
 use Rattle.machine.specs.Rules.{delayed}
 use Rattle.machine.specs.Ledger.{Event, deposits, member, has, eventOf, closed, closings, paid, allMerchant, split}
 use Rattle.machine.specs.declared.state.Channel.{Channel}
+use Rattle.machine.specs.declared.state.Setup.{Setup}
 
 -- ---- opcodes that have not come
 
@@ -33,19 +34,19 @@ unfunded = 3 ∷ unmatched
 
 -- ---- what the strings say of the record
 
--- It has the terms of the accepted 02, and they are in range.
-pub record Terms (made : Bool) (s : List ℕ) (first second wait : ℕ) (key : List ℕ) : Type 0 where
+-- It has the terms of the accepted 02, by what the book keeps of its opening, and they are in range.
+pub record Terms (x : Setup) (made : Bool) (s : List ℕ) (first second wait : ℕ) (key : List ℕ) : Type 0 where
   pub there : made ≡ true
   pub customer : first ≡ customerDeposit s
   pub merchant : second ≡ merchantDeposit s
-  pub delays : wait ≡ delayed (delay s)
+  pub delays : wait ≡ delayed (x .delay) (delay s)
   pub signer : key ≡ merchantKey s
   pub fits : first + second ≤ limit
   pub least : shortest ≤ wait
   pub most : wait ≤ longest
 
-abbrev pub TermsOf : List Event → Channel → Type 0
-TermsOf l c = Terms (has 2 l) ((eventOf 2 l) .string) (c .customer .deposit .0) (c .merchant .deposit .0) (c .delay) (c .merchant .key)
+abbrev pub TermsOf : Setup → List Event → Channel → Type 0
+TermsOf x l c = Terms x (has 2 l) ((eventOf 2 l) .string) (c .customer .deposit .0) (c .merchant .deposit .0) (c .delay) (c .merchant .key)
 
 -- What came in, and what was paid to each side.
 pub record Money (l : List Event) (in′ customer merchant : ℕ) : Type 0 where
@@ -64,27 +65,27 @@ abbrev pub ClosingOf : List Event → Channel → Type 0
 ClosingOf l c = Closing (eventOf 7 l) (c .kept .0) (agreed c) (c .deadline .0) (c .delay) (c .lock)
 
 -- In status 1, 2 and 3, and in 4 with its 08: the terms hold, deposits came in, nothing is paid.
-pub record Live (lacking : List ℕ) (in′ : ℕ) (l : List Event) (c : Channel) : Type 0 where
-  pub terms : TermsOf l c
+pub record Live (x : Setup) (lacking : List ℕ) (in′ : ℕ) (l : List Event) (c : Channel) : Type 0 where
+  pub terms : TermsOf x l c
   pub lacks : Lacks lacking l
   pub money : Money l in′ 0 0
 
 -- In status 4: the merchant is closing.
-pub record Waiting (l : List Event) (c : Channel) : Type 0 where
-  pub live : Live unanswered (agreed c) l c
+pub record Waiting (x : Setup) (l : List Event) (c : Channel) : Type 0 where
+  pub live : Live x unanswered (agreed c) l c
   pub begun : has 8 l ≡ true
 
 -- In status 5: the customer is closing, b is paid and c is kept.
-pub record Leaving (l : List Event) (c : Channel) : Type 0 where
-  pub terms : TermsOf l c
+pub record Leaving (x : Setup) (l : List Event) (c : Channel) : Type 0 where
+  pub terms : TermsOf x l c
   pub lacks : Lacks unclosed l
   pub begun : has 7 l ≡ true
   pub closing : ClosingOf l c
   pub money : Money l (agreed c) 0 (merchantPart 7 ((eventOf 7 l) .string))
 
 -- In status 6: the deposits are paid out by the split of the way of closing.
-pub record Over (l : List Event) (c : Channel) : Type 0 where
-  pub terms : TermsOf l c
+pub record Over (x : Setup) (l : List Event) (c : Channel) : Type 0 where
+  pub terms : TermsOf x l c
   pub ended : closed l ≡ true
   pub single : closings l < 2
   pub left : (has 7 l && not (has 9 l || has 10 l)) ≡ false
@@ -94,9 +95,9 @@ pub record Over (l : List Event) (c : Channel) : Type 0 where
   pub either : (has 6 l && has 7 l) ≡ false
 
 -- The invariant by status, 0 to 6.
-abbrev pub StageAt : List Event → Channel → ℕ → Type 0
-StageAt l c status =
-    getD ((l ≡ []) ∷ Live unfunded 0 l c ∷ Live unmatched (c .customer .deposit .0) l c ∷ Live running (agreed c) l c ∷ Waiting l c ∷ Leaving l c ∷ Over l c ∷ []) status ⊥
+abbrev pub StageAt : Setup → List Event → Channel → ℕ → Type 0
+StageAt x l c status =
+    getD ((l ≡ []) ∷ Live x unfunded 0 l c ∷ Live x unmatched (c .customer .deposit .0) l c ∷ Live x running (agreed c) l c ∷ Waiting x l c ∷ Leaving x l c ∷ Over x l c ∷ []) status ⊥
 
-abbrev pub Stage : List Event → Channel → Type 0
-Stage l c = StageAt l c (c .status)
+abbrev pub Stage : Setup → List Event → Channel → Type 0
+Stage x l c = StageAt x l c (c .status)

@@ -8,11 +8,13 @@ use lib.Dec.{eqb, leb}
 use borrow.Author.Tests.{eqb-true, leb-true, ne-eqb}
 use Rattle.machine.specs.Checks.{Verdict}
 use Rattle.machine.specs.Format.{opcode, amount, customerDeposit, delay, customerPart, merchantPart, lock}
-use Rattle.machine.specs.Book.{shortest, longest, agreed, total, held}
+use Rattle.machine.specs.Book.{shortest, longest, ranged, agreed, total, held, soundSetup}
 use Rattle.machine.specs.Rules.{Plan, moved, become, delayed, delayFits, establish, fundCustomer, fundMerchant, reclaim, mutualClose, customerClose, merchantClose, dispute, settle}
 use Rattle.machine.specs.Machine.{customerOf, merchantOf, plan}
 use Rattle.machine.specs.Ledger.{Event, deposits, sum, opcodes, member, tally, has, count, eventOf, closings, agreedCustomer, agreedTotal, paid, allMerchant, split}
 use Rattle.machine.specs.declared.state.Channel.{Channel}
+use Rattle.machine.specs.declared.state.Setup.{Setup}
+use Rattle.machine.specs.declared.state.Context.{Context}
 use Rattle.machine.specs.declared.answers.Answer.{Answer}
 use Rattle.machine.proofs.Laws.{clash, and-both, or-neither, or-other, or-right}
 use Rattle.machine.proofs.Judging.{Passed}
@@ -47,14 +49,18 @@ pub held-at : (c : Channel) (n x : ℕ) → c .status ≡ n → cond (eqb n 2) (
 unfolding held
 held-at c n x e h = subst (λ (i : ℕ). cond (eqb i 2) (c .customer .deposit .0) (cond (eqb i 3 || eqb i 4) (total c) (cond (eqb i 5) (c .kept .0) 0)) ≡ x) (sym e) h
 
--- Check 7 is on the operand; 0 stands for a day.
-delayed-fits : (d : ℕ) → delayFits d ≡ true → (shortest ≤ delayed d) × (delayed d ≤ longest)
+-- A test of the range.
+in-range : (d : ℕ) → ranged d ≡ true → (shortest ≤ d) × (d ≤ longest)
+in-range d h = let p = and-both (leb shortest d) (leb d longest) h in (leb-true _ _ (p .0), leb-true _ _ (p .1))
+
+-- Check 7 is on the operand; 0 stands for the default, which is in range.
+delayed-fits : (default : ℕ) → ranged default ≡ true → (d : ℕ) → delayFits d ≡ true → (shortest ≤ delayed default d) × (delayed default d ≤ longest)
 unfolding delayed
-delayed-fits d = go (eqb d 0)
+delayed-fits default r d = go (eqb d 0)
   where
-    go : (x : Bool) → (x || (leb shortest d && leb d longest)) ≡ true → (shortest ≤ cond x 86400 d) × (cond x 86400 d ≤ longest)
-    go true h = (omega arith, omega arith)
-    go false h = let p = and-both (leb shortest d) (leb d longest) h in (leb-true _ _ (p .0), leb-true _ _ (p .1))
+    go : (x : Bool) → (x || ranged d) ≡ true → (shortest ≤ cond x default d) × (cond x default d ≤ longest)
+    go true h = in-range default r
+    go false h = in-range d h
 
 -- ---- one more string
 
@@ -102,24 +108,28 @@ module _ (l : List Event) (s : List ℕ) (a : Answer) (k : ℕ) where
   unfolding opcodes member
   undisputed o m h = let z : has 9 (next ∷ l) ≡ false = rw (o, m) in absurd (clash h z)
 
-  module _ (c : Channel) where
-    terms-on : eqb (opcode s) 2 ≡ false → TermsOf l c → TermsOf (next ∷ l) c
+  -- What a rule reads: its setup is sound, and its clock is the history's.
+  module _ (c : Channel) (at : Context) (fixed : soundSetup (at .setup) ≡ true) (same : k ≡ at .clock .0) where
+    abbrev setup : Setup
+    setup = at .setup
+
+    terms-on : eqb (opcode s) 2 ≡ false → TermsOf setup l c → TermsOf setup (next ∷ l) c
     unfolding opcodes member
     terms-on o t = rw (event-skip 2 o, o) t
 
     abbrev pub Leads : ℕ → Plan → Type 0
     Leads op p =
-        opcode s ≡ op → Passed (p .checks) → a .customer .0 ≡ p .pays .customer .0 → a .merchant .0 ≡ p .pays .merchant .0 → Stage l c → Stage (next ∷ l) (p .channel) × (has op l ≡ false)
+        opcode s ≡ op → Passed (p .checks) → a .customer .0 ≡ p .pays .customer .0 → a .merchant .0 ≡ p .pays .merchant .0 → Stage setup l c → Stage setup (next ∷ l) (p .channel) × (has op l ≡ false)
 
     -- The stage at a status that check 5 found.
-    found : (n : ℕ) → eqb (c .status) n ≡ true → Stage l c → StageAt l c n
-    found n q g = subst (StageAt l c) (eqb-true (c .status) n q) g
+    found : (n : ℕ) → eqb (c .status) n ≡ true → Stage setup l c → StageAt setup l c n
+    found n q g = subst (StageAt setup l c) (eqb-true (c .status) n q) g
 
-    establishes : Leads 2 (establish (customerOf s) (merchantOf s) (delay s) c)
+    establishes : Leads 2 (establish at (customerOf s) (merchantOf s) (delay s) c)
     unfolding establish opcodes member sum
     establishes o p pc pm g =
         let e : l ≡ [] = found 0 (p .0) g in
-        let d = delayed-fits (delay s) (p .1 .1 .0) in
+        let d = delayed-fits (setup .delay) fixed (delay s) (p .1 .1 .0) in
         let f = and-both (leb 1 (customerDeposit s)) _ (p .1 .1 .1 .0) in (
           record {
             terms = rw (event-next 2 (rw o)) (record { there = rw o; customer = refl; merchant = refl; delays = refl; signer = refl; fits = leb-true _ _ (f .1); least = d .0; most = d .1 });
@@ -132,10 +142,10 @@ module _ (l : List Event) (s : List ℕ) (a : Answer) (k : ℕ) where
     fundsCustomer : Leads 3 (fundCustomer (amount s) c)
     unfolding fundCustomer member
     fundsCustomer o p pc pm g =
-        let g′ : Live unfunded 0 l c = found 1 (p .0) g in
+        let g′ : Live setup unfunded 0 l c = found 1 (p .0) g in
         let f = eqb-true (amount s) (c .customer .deposit .0) (p .1 .0) in
         let more = fewer 3 unmatched l (g′ .lacks) in
-        let go : (b : Bool) → eqb (c .merchant .deposit .0) 0 ≡ b → Stage (next ∷ l) (become (cond b 3 2) c) = elim [
+        let go : (b : Bool) → eqb (c .merchant .deposit .0) 0 ≡ b → Stage setup (next ∷ l) (become (cond b 3 2) c) = elim [
           | true ↦ λ z. record { terms = terms-on (rw o) (g′ .terms); lacks = lacks-on running (rw o) (fewer 4 running l more); money = omega (arith, a-funds (rw o), pays-customer, pays-merchant, eqb-true) }
           | false ↦ λ z. record { terms = terms-on (rw o) (g′ .terms); lacks = lacks-on unmatched (rw o) more; money = omega (arith, a-funds (rw o), pays-customer, pays-merchant) }
         ] in
@@ -144,7 +154,7 @@ module _ (l : List Event) (s : List ℕ) (a : Answer) (k : ℕ) where
     fundsMerchant : Leads 4 (fundMerchant (amount s) c)
     unfolding fundMerchant member
     fundsMerchant o p pc pm g =
-        let g′ : Live unmatched (c .customer .deposit .0) l c = found 2 (p .0) g in
+        let g′ : Live setup unmatched (c .customer .deposit .0) l c = found 2 (p .0) g in
         let f = eqb-true (amount s) (c .merchant .deposit .0) (p .1 .0) in (
           record {
             terms = terms-on (rw o) (g′ .terms);
@@ -157,7 +167,7 @@ module _ (l : List Event) (s : List ℕ) (a : Answer) (k : ℕ) where
     reclaims : (v : Verdict) → Leads 5 (reclaim v c)
     unfolding reclaim opcodes member
     reclaims v o p pc pm g =
-        let g′ : Live unmatched (c .customer .deposit .0) l c = found 2 (p .0) g in
+        let g′ : Live setup unmatched (c .customer .deposit .0) l c = found 2 (p .0) g in
         let t = terms-on (rw o) (g′ .terms) in (
           record {
             terms = t;
@@ -175,7 +185,7 @@ module _ (l : List Event) (s : List ℕ) (a : Answer) (k : ℕ) where
     agrees : (v w : Verdict) → Leads 6 (mutualClose (customerPart 6 s) (merchantPart 6 s) v w c)
     unfolding mutualClose opcodes member
     agrees v w o p pc pm g =
-        let g′ : Live running (agreed c) l c = found 3 (p .0) g in
+        let g′ : Live setup running (agreed c) l c = found 3 (p .0) g in
         let f = eqb-true (customerPart 6 s + merchantPart 6 s) (total c) (p .1 .0) in
         let q = total-at c 2 (eqb-true (c .status) 3 (p .0)) in
         let n = event-next 6 (rw o) in (
@@ -192,11 +202,11 @@ module _ (l : List Event) (s : List ℕ) (a : Answer) (k : ℕ) where
           g′ .lacks 6 refl,
         )
 
-    leaves : (now : ℕ) (v w : Verdict) → k ≡ now → Leads 7 (customerClose now (lock s) (customerPart 7 s) (merchantPart 7 s) v w c)
+    leaves : (v w : Verdict) → Leads 7 (customerClose at (lock s) (customerPart 7 s) (merchantPart 7 s) v w c)
     unfolding customerClose opcodes member
-    leaves now v w e o p pc pm g = go (eqb (c .status) 3) refl
+    leaves v w o p pc pm g = go (eqb (c .status) 3) refl
       where
-        close : Live unanswered (agreed c) l c → total c ≡ agreed c → Leaving (next ∷ l) (moved c 5 (now + c .delay) (customerPart 7 s) (lock s)) × (has 7 l ≡ false)
+        close : Live setup unanswered (agreed c) l c → total c ≡ agreed c → Leaving setup (next ∷ l) (moved c 5 (at .clock .0 + c .delay) (customerPart 7 s) (lock s)) × (has 7 l ≡ false)
         close g′ q =
             let f = eqb-true (customerPart 7 s + merchantPart 7 s) (total c) (p .1 .0) in
             let n = event-next 7 (rw o) in (
@@ -210,19 +220,19 @@ module _ (l : List Event) (s : List ℕ) (a : Answer) (k : ℕ) where
               g′ .lacks 7 refl,
             )
 
-        go : (x : Bool) → eqb (c .status) 3 ≡ x → Leaving (next ∷ l) (moved c 5 (now + c .delay) (customerPart 7 s) (lock s)) × (has 7 l ≡ false)
+        go : (x : Bool) → eqb (c .status) 3 ≡ x → Leaving setup (next ∷ l) (moved c 5 (at .clock .0 + c .delay) (customerPart 7 s) (lock s)) × (has 7 l ≡ false)
         go true z =
-            let h : Live running (agreed c) l c = found 3 z g in
+            let h : Live setup running (agreed c) l c = found 3 z g in
             close (record { terms = h .terms; lacks = fewer 8 unanswered l (h .lacks); money = h .money }) (total-at c 2 (eqb-true (c .status) 3 z))
         go false z =
             let y = or-other (eqb (c .status) 3) (eqb (c .status) 4) (p .0) z in
-            let h : Waiting l c = found 4 y g in
+            let h : Waiting setup l c = found 4 y g in
             close (h .live) (total-at c 3 (eqb-true (c .status) 4 y))
 
-    closes : (now : ℕ) (v : Verdict) → Leads 8 (merchantClose now v c)
+    closes : (v : Verdict) → Leads 8 (merchantClose at v c)
     unfolding merchantClose opcodes member
-    closes now v o p pc pm g =
-        let g′ : Live running (agreed c) l c = found 3 (p .0) g in (
+    closes v o p pc pm g =
+        let g′ : Live setup running (agreed c) l c = found 3 (p .0) g in (
           record {
             live = record {
               terms = terms-on (rw o) (g′ .terms);
@@ -234,10 +244,10 @@ module _ (l : List Event) (s : List ℕ) (a : Answer) (k : ℕ) where
           g′ .lacks 8 refl,
         )
 
-    disputes : (now : ℕ) (h : List ℕ) (v : Verdict) → Leads 9 (dispute now h v c)
+    disputes : (h : List ℕ) (v : Verdict) → Leads 9 (dispute at h v c)
     unfolding dispute opcodes member
-    disputes now h v o p pc pm g =
-        let g′ : Leaving l c = found 5 (p .0) g in
+    disputes h v o p pc pm g =
+        let g′ : Leaving setup l c = found 5 (p .0) g in
         let t = terms-on (rw o) (g′ .terms) in
         let e : split (next ∷ l) ≡ allMerchant (next ∷ l) = rw (o, g′ .lacks 5 refl, g′ .lacks 6 refl, g′ .begun, g′ .lacks 10 refl) in
         let q = paid-split (next ∷ l) 0 (agreedTotal (next ∷ l)) e (omega (arith, pays-customer)) (omega (arith, pays-merchant, t)) in (
@@ -254,13 +264,13 @@ module _ (l : List Event) (s : List ℕ) (a : Answer) (k : ℕ) where
           g′ .lacks 9 refl,
         )
 
-    settles : (now : ℕ) → Leads 10 (settle now c)
+    settles : Leads 10 (settle at c)
     unfolding settle opcodes member
-    settles now o p pc pm g = go (eqb (c .status) 4) refl
+    settles o p pc pm g = go (eqb (c .status) 4) refl
       where
-        go : (x : Bool) → eqb (c .status) 4 ≡ x → Over (next ∷ l) (become 6 c) × (has 10 l ≡ false)
+        go : (x : Bool) → eqb (c .status) 4 ≡ x → Over setup (next ∷ l) (become 6 c) × (has 10 l ≡ false)
         go true z =
-            let w : Waiting l c = found 4 z g in
+            let w : Waiting setup l c = found 4 z g in
             let g′ = w .live in
             let e = eqb-true (c .status) 4 z in
             let x : a .customer .0 ≡ 0 = pc ∙ rw z in
@@ -280,7 +290,7 @@ module _ (l : List Event) (s : List ℕ) (a : Answer) (k : ℕ) where
             )
         go false z =
             let q = or-other (eqb (c .status) 4) (eqb (c .status) 5) (p .0) z in
-            let g′ : Leaving l c = found 5 q g in
+            let g′ : Leaving setup l c = found 5 q g in
             let x : a .customer .0 ≡ c .kept .0 = pc ∙ rw z in
             let y : a .merchant .0 ≡ 0 = pm ∙ rw z in
             let n = event-skip 7 (rw o) in (
@@ -298,21 +308,21 @@ module _ (l : List Event) (s : List ℕ) (a : Answer) (k : ℕ) where
             )
 
     -- An accepted command of a channel leads from its stage to the next, and its opcode had not come.
-    module _ (check : List ℕ → List ℕ → List ℕ → Verdict) (hash : List ℕ → List ℕ) (id : List ℕ) (now : ℕ) where
-      pub moves : k ≡ now → (op : ℕ) → Leads op (plan check hash op id now s c)
+    module _ (check : List ℕ → List ℕ → List ℕ → Verdict) (hash : List ℕ → List ℕ) where
+      pub moves : (op : ℕ) → Leads op (plan check hash op at s c)
       unfolding plan
-      moves e zero = λ o p. absurd (clash (p .0) refl)
-      moves e (suc zero) = λ o p. absurd (clash (p .0) refl)
-      moves e (suc (suc zero)) = establishes
-      moves e (suc (suc (suc zero))) = fundsCustomer
-      moves e (suc (suc (suc (suc zero)))) = fundsMerchant
-      moves e (suc (suc (suc (suc (suc zero))))) = reclaims _
-      moves e (suc (suc (suc (suc (suc (suc zero)))))) = agrees _ _
-      moves e (suc (suc (suc (suc (suc (suc (suc zero))))))) = leaves now _ _ e
-      moves e (suc (suc (suc (suc (suc (suc (suc (suc zero)))))))) = closes now _
-      moves e (suc (suc (suc (suc (suc (suc (suc (suc (suc zero))))))))) = disputes now _ _
-      moves e (suc (suc (suc (suc (suc (suc (suc (suc (suc (suc zero)))))))))) = settles now
-      moves e (suc (suc (suc (suc (suc (suc (suc (suc (suc (suc (suc n))))))))))) = λ o p. absurd (clash (p .0) refl)
+      moves zero = λ o p. absurd (clash (p .0) refl)
+      moves (suc zero) = λ o p. absurd (clash (p .0) refl)
+      moves (suc (suc zero)) = establishes
+      moves (suc (suc (suc zero))) = fundsCustomer
+      moves (suc (suc (suc (suc zero)))) = fundsMerchant
+      moves (suc (suc (suc (suc (suc zero))))) = reclaims _
+      moves (suc (suc (suc (suc (suc (suc zero)))))) = agrees _ _
+      moves (suc (suc (suc (suc (suc (suc (suc zero))))))) = leaves _ _
+      moves (suc (suc (suc (suc (suc (suc (suc (suc zero)))))))) = closes _
+      moves (suc (suc (suc (suc (suc (suc (suc (suc (suc zero))))))))) = disputes _ _
+      moves (suc (suc (suc (suc (suc (suc (suc (suc (suc (suc zero)))))))))) = settles
+      moves (suc (suc (suc (suc (suc (suc (suc (suc (suc (suc (suc n))))))))))) = λ o p. absurd (clash (p .0) refl)
 
 -- ---- each opcode comes once
 

@@ -1,6 +1,6 @@
 -- A list by computing, so that the third demand speaks of books that are reached, with a check that always says yes and a hash that changes
--- nothing: channel 2 is closed by both; the customer closes channel 5 with the figures of document 01, and there is no 08; the clock shows
--- the last second before the deadline.
+-- nothing, on a book opened with the desk's settings: channel 2 is closed by both; the customer closes channel 5, whose 02 has the delay 0, and
+-- there is no 08; the clock shows the last second before the deadline of the default.
 use mathlib.Core.Path.{_≡_, refl}
 use mathlib.Core.Bool.{true}
 use mathlib.Core.List.{List, [], _∷_, _++_}
@@ -9,8 +9,9 @@ use lib.ListN.{replicate}
 use Rattle.wire.specs.Numbers.{u16At, u32At, u64At}
 use Rattle.wire.specs.Parts.{same}
 use Rattle.machine.specs.Format.{size, message}
-use Rattle.machine.specs.Book.{total, held, soundChannel, sound, fresh, readChannel, reading}
+use Rattle.machine.specs.Book.{total, held, soundChannel, sound, readChannel, reading}
 use Rattle.machine.specs.Checks.{Verdict, ask}
+use Rattle.machine.specs.Opening.{Opening, under, deskSettings, fresh}
 use Rattle.machine.specs.Rules.{delayed, keyed, establish, fundCustomer, fundMerchant, reclaim, mutualClose, customerClose, merchantClose, dispute, settle}
 use Rattle.machine.specs.Machine.{answer, concluded, ruling, verdict, plan, step}
 use Rattle.machine.specs.Ledger.{Standing, after}
@@ -25,14 +26,14 @@ abbrev pub two : ℕ → List ℕ
 two n = n / 256 % 256 ∷ n % 256 ∷ []
 
 abbrev pub eight : ℕ → List ℕ
-eight n = replicate 6 0 ++ two n
+eight n = replicate 5 0 ++ n / 65536 % 256 ∷ two n
 
 abbrev pub key : ℕ → List ℕ
 key x = replicate 3 0 ++ 6 ∷ replicate 3 0 ++ 4 ∷ replicate 48 x
 
--- 900 and 100, delay 3,600.
-abbrev pub establishes : ℕ → List ℕ
-establishes n = 2 ∷ two n ++ key 1 ++ key 2 ++ eight 900 ++ eight 100 ++ replicate 2 0 ++ two 3600
+-- 900 and 100, with this delay.
+abbrev pub establishes : ℕ → ℕ → List ℕ
+establishes n delay = 2 ∷ two n ++ key 1 ++ key 2 ++ eight 900 ++ eight 100 ++ replicate 2 0 ++ two delay
 
 abbrev pub funds : ℕ → ℕ → ℕ → List ℕ
 funds op n cents = op ∷ two n ++ eight cents
@@ -43,37 +44,37 @@ clocks t = 1 ∷ eight t
 abbrev pub disputes : List ℕ
 disputes = 9 ∷ two 5 ++ replicate 32 5 ++ replicate 1452 0
 
-abbrev pub id : List ℕ
-id = replicate 16 0
+abbrev pub opens : Opening
+opens = under deskSettings (replicate 16 0)
 
 -- The sixth string, 03 with 899, is refused.
 abbrev pub list : List (List ℕ)
 list =
     clocks 1000
-    ∷ establishes 2
+    ∷ establishes 2 3600
     ∷ funds 3 2 900
     ∷ funds 4 2 100
-    ∷ establishes 5
+    ∷ establishes 5 0
     ∷ funds 3 5 899
     ∷ funds 3 5 900
     ∷ funds 4 5 100
     ∷ (6 ∷ two 2 ++ eight 400 ++ eight 600 ++ replicate 2904 0)
     ∷ (7 ∷ two 5 ++ replicate 32 5 ++ eight 700 ++ eight 300 ++ replicate 2904 0)
-    ∷ clocks 4599
+    ∷ clocks 173799
     ∷ []
 
 unfoldable pub standing : List (List ℕ) → Standing
-standing l = after yes plain (record { book = fresh id; history = [] }) l
+standing l = after yes plain (record { book = fresh opens; history = [] }) l
 
 record Reached (t : Standing) : Type 0 where
   status : (reading (t .book) 5) .status ≡ 5
   holds : (reading (t .book) 5) .held .0 ≡ 700
-  deadline : (reading (t .book) 5) .deadline .0 ≡ 4600
+  deadline : (reading (t .book) 5) .deadline .0 ≡ 173800
   disputed : (step yes plain (t .book) disputes) .answer .refusal ≡ 0
   pays : (step yes plain (t .book) disputes) .answer .merchant .0 ≡ 700
   steps : (step yes plain (t .book) disputes) .answer .steps ≡ 510
   settles : (step yes plain (t .book) (10 ∷ two 5)) .answer .refusal ≡ 9
-  late : (step yes plain ((step yes plain (t .book) (clocks 4600)) .book) disputes) .answer .refusal ≡ 9
+  late : (step yes plain ((step yes plain (t .book) (clocks 173800)) .book) disputes) .answer .refusal ≡ 9
 
 reached : Reached (standing list)
 unfolding yes plain standing u16At u32At u64At same size message total held soundChannel sound fresh readChannel reading ask delayed keyed establish fundCustomer fundMerchant reclaim mutualClose customerClose merchantClose dispute settle answer concluded ruling verdict plan step after

@@ -1,24 +1,27 @@
 -- The sentences that are easy to misread hold.
 use mathlib.Core.Path.{_≡_, refl, ap, _∙_}
-use mathlib.Core.Bool.{Bool, true, false, cond}
+use mathlib.Core.Bool.{Bool, true, false, cond, _&&_}
 use mathlib.Core.List.{List, [], _∷_}
 use Prim.Native.Nat.{ℕ, zero, suc, _+_, _≤_, _<_}
 use native.Mathlib.Omega.{arith}
-use lib.Dec.{eqb}
-use lib.ListN.{getD, drop}
-use borrow.Author.Tests.{ne-eqb, eqb-false, lt-ltb}
+use lib.Dec.{eqb, leb}
+use lib.ListN.{length, getD, drop}
+use borrow.Author.Tests.{eq-eqb, ne-eqb, eqb-false, le-leb, lt-leb, lt-ltb}
 use Rattle.lms.specs.Layout.{typedKey}
 use Rattle.machine.specs.Format.{opcode, time, place}
-use Rattle.machine.specs.Book.{layout, markOf, theMark, sound, total, readChannel, channel}
+use Rattle.machine.specs.Book.{limit, ranged, layout, markOf, theMark, all, soundChannel, sound, total, readChannel, reading, channel}
 use Rattle.machine.specs.Checks.{Check, test, Verdict, clean, ask, judge}
+use Rattle.machine.specs.Opening.{Opening, fresh, opening}
+use Rattle.machine.specs.Due.{due}
 use Rattle.machine.specs.Rules.{Plan, delayed, keyed, delayFits, depositsFit, establish, fundCustomer, fundMerchant, reclaim, mutualClose, customerClose, merchantClose, dispute, settle}
-use Rattle.machine.specs.Machine.{answer, concluded, ruling, Order, setClock, onChannel, formed, shared, carried, noPlan, plans, plan, order, step}
-use Rattle.machine.specs.WrongTurns.{refusal, answered, rising, Keys, WrongTurns}
+use Rattle.machine.specs.Machine.{answer, concluded, ruling, Order, setClock, onChannel, formed, shared, carried, contextOf, noPlan, plans, plan, order, step}
+use Rattle.machine.specs.WrongTurns.{refusal, answered, rising, Keys, notOpened, Opens, Unsound, WrongTurns}
 use Rattle.machine.specs.declared.state.Party.{Party}
 use Rattle.machine.specs.declared.state.Channel.{Channel}
+use Rattle.machine.specs.declared.state.Context.{Context}
 use Rattle.machine.specs.declared.state.Book.{Book}
 use Rattle.machine.specs.declared.answers.Judged.{Judged}
-use Rattle.machine.proofs.Laws.{clash, same-refl, same-ne}
+use Rattle.machine.proofs.Laws.{clash, and-middle, same-refl, same-ne}
 use Rattle.machine.proofs.Judging.{judge-stop}
 use Rattle.machine.proofs.Plans.{each-plan}
 
@@ -33,9 +36,36 @@ first-no r x l b o e h =
     let j : Judged = record { refusal = r; steps = 0 } in
     ap (λ (y : Bool). carried (judge (ask clean (test r y)) l) b o) e ∙ ap (λ (i : Judged). carried i b o) (judge-stop l j h) ∙ carried-stops j b o h
 
+-- ---- what lies outside the range of delays
+
+below-range : (d : ℕ) → d < 3600 → ranged d ≡ false
+below-range d h = rw (lt-leb _ _ h)
+
+above-range : (d : ℕ) → 2592000 < d → ranged d ≡ false
+above-range d h = go (leb 3600 d)
+  where
+    go : (x : Bool) → (x && leb d 2592000) ≡ false
+    go true = lt-leb _ _ h
+    go false = refl
+
+-- ---- an opening
+
+opens : (lent : Book) (o : Opening) → Opens lent o
+unfolding opening fresh ask
+opens lent o = record {
+  id-first = λ n. rw (ne-eqb _ _ n) (go (ranged (o .settings .delay)));
+  short = λ e h. rw (eq-eqb _ _ e, below-range _ h);
+  long = λ e h. rw (eq-eqb _ _ e, above-range _ h);
+  accepted = λ e h k. rw (eq-eqb _ _ e, le-leb _ _ h, le-leb _ _ k);
+  default = refl;
+}
+  where
+    go : (x : Bool) → (let j = judge clean (test 2 false ∷ test 14 x ∷ []) in record { book = cond (eqb (j .refusal) 0) (fresh o) lent; refusal = j .refusal }) ≡ notOpened lent 2
+    go x = refl
+
 -- Keys of the right types.
-module _ (customer merchant : Party) (d : ℕ) (ch : Channel) (unused : ch .status ≡ 0) (first : typedKey (customer .key) ≡ true) (second : typedKey (merchant .key) ≡ true) where
-  pass-six : (customer .key ≡ merchant .key → ⊥) → (answered ch (establish customer merchant d ch)) .refusal ≡ 6 → ⊥
+module _ (at : Context) (customer merchant : Party) (d : ℕ) (ch : Channel) (unused : ch .status ≡ 0) (first : typedKey (customer .key) ≡ true) (second : typedKey (merchant .key) ≡ true) where
+  pass-six : (customer .key ≡ merchant .key → ⊥) → (answered ch (establish at customer merchant d ch)) .refusal ≡ 6 → ⊥
   unfolding keyed establish ask answer concluded ruling
   pass-six n e = go (delayFits d) (depositsFit (customer .deposit .0) (merchant .deposit .0)) (rw (unused, first, second, same-ne _ _ n) at e)
     where
@@ -44,11 +74,11 @@ module _ (customer merchant : Party) (d : ℕ) (ch : Channel) (unused : ch .stat
       go true false = eqb-false 8 6 refl
       go false y = eqb-false 7 6 refl
 
-  fail-six : customer .key ≡ merchant .key → answered ch (establish customer merchant d ch) ≡ refusal 6 0
+  fail-six : customer .key ≡ merchant .key → answered ch (establish at customer merchant d ch) ≡ refusal 6 0
   unfolding keyed establish ask answer concluded ruling
   fail-six e = rw (unused, first, second, e, same-refl (merchant .key))
 
-  compares-keys : Keys customer merchant d ch
+  compares-keys : Keys at customer merchant d ch
   compares-keys = record { differ = λ i n. pass-six (λ e. n (ap (λ (k : List ℕ). getD k i 0) e)); equal = fail-six }
 
 module _ (check : List ℕ → List ℕ → List ℕ → Verdict) (hash : List ℕ → List ℕ) where
@@ -59,20 +89,28 @@ module _ (check : List ℕ → List ℕ → List ℕ → Verdict) (hash : List �
       ch : Channel
       ch = channel b (place s)
 
-      go : (op : ℕ) → 1 ≤ op → op ≤ 10 → rising 0 (formed s ((cond (eqb op 1) (setClock b (time s)) (onChannel b (place s) (plan check hash op (b .id) (b .clock .0) s ch))) .checks)) ≡ true
+      go : (op : ℕ) → 1 ≤ op → op ≤ 10 → rising 0 (formed s ((cond (eqb op 1) (setClock b (time s)) (onChannel b (place s) (plan check hash op (contextOf b) s ch))) .checks)) ≡ true
       go zero p q = let z : ⊥ = omega (arith, p) in absurd z
       go (suc zero) p q = refl
       go (suc (suc i)) p q =
           rw (ne-eqb (suc (suc i)) 1 (λ e. omega (arith, e)))
-          (each-plan (λ x. rising 4 (x .checks)) (noPlan ch) (drop 2 (plans check hash (b .id) (b .clock .0) s ch)) refl i (λ h. let z : ⊥ = omega (arith, h, q) in absurd z))
+          (each-plan (λ x. rising 4 (x .checks)) (noPlan ch) (drop 2 (plans check hash (contextOf b) s ch)) refl i (λ h. let z : ⊥ = omega (arith, h, q) in absurd z))
 
-  unsound : (b : Book) (s : List ℕ) → sound b ≡ false → step check hash b s ≡ record { book = b; answer = refusal 99 0 }
-  unfolding step
-  unsound b s e = first-no 99 (sound b) (formed s ((order check hash b s) .checks)) b (order check hash b s) e (eqb-false 99 0 refl)
+  unsound : (b : Book) → sound b ≡ false → Unsound check hash b
+  unfolding step reading due
+  unsound b e = record {
+    answers = λ s. first-no 99 (sound b) (formed s ((order check hash b s) .checks)) b (order check hash b s) e (eqb-false 99 0 refl);
+    reads = λ n. rw e;
+    names = rw e;
+  }
 
-  other-layout : (b : Book) (s : List ℕ) (n : ℕ) → b .mark ≡ markOf n → (n ≡ layout → ⊥) → step check hash b s ≡ record { book = b; answer = refusal 99 0 }
+  other-layout : (b : Book) (n : ℕ) → b .mark ≡ markOf n → (n ≡ layout → ⊥) → Unsound check hash b
   unfolding sound
-  other-layout b s n e h = unsound b s (rw (ne-eqb (b .mark) theMark (λ m. h (omega (arith, e, m)))))
+  other-layout b n e h = unsound b (rw (ne-eqb (b .mark) theMark (λ m. h (omega (arith, e, m)))))
+
+  other-default : (b : Book) → ranged (b .setup .delay) ≡ false → Unsound check hash b
+  unfolding sound
+  other-default b e = unsound b (and-middle (eqb (b .mark) theMark && leb (b .clock .0) limit) _ (all soundChannel (b .channels)) e)
 
   refused : (b : Book) (s : List ℕ) → ((step check hash b s) .answer .refusal ≡ 0 → ⊥)
       → step check hash b s ≡ record { book = b; answer = refusal ((step check hash b s) .answer .refusal) ((step check hash b s) .answer .steps) }
@@ -84,15 +122,18 @@ module _ (check : List ℕ → List ℕ → List ℕ → Verdict) (hash : List �
   right-turns = record {
     unsound = unsound;
     other-layout = other-layout;
+    short-default = λ b h. other-default b (below-range _ h);
+    long-default = λ b h. other-default b (above-range _ h);
+    opens = opens;
     refused = refused;
     unused = λ ch e. rw e;
-    establishes = λ customer merchant ch. record { day = refl; deadline = λ d. refl; kept = λ d. refl; lock = λ d. refl };
+    establishes = λ at customer merchant ch. record { default = refl; delay = λ d n. rw (ne-eqb d 0 n); deadline = λ d. refl; kept = λ d. refl; lock = λ d. refl };
     reclaims = λ v ch g e. let z : 0 + v .steps ≡ v .steps = omega arith in rw (e, g) (ap (λ (n : ℕ). refusal 12 n) z);
-    unclosed-settled = λ now ch p q. rw (ne-eqb _ _ p, ne-eqb _ _ q);
-    unclosed-disputed = λ now hashed v ch e. rw (ne-eqb _ _ e);
-    lock-differs = λ now hashed v ch e t n. rw (e, lt-ltb _ _ t, same-ne _ _ n);
-    delay-first = λ customer merchant d ch e k n. rw (e, k, n);
+    unclosed-settled = λ at ch p q. rw (ne-eqb _ _ p, ne-eqb _ _ q);
+    unclosed-disputed = λ at hashed v ch e. rw (ne-eqb _ _ e);
+    lock-differs = λ at hashed v ch e t n. rw (e, lt-ltb _ _ t, same-ne _ _ n);
+    delay-first = λ at customer merchant d ch e k n. rw (e, k, n);
     keys = compares-keys;
     ordered = in-order;
-    answers = λ now c b lock v w ch. refl;
+    answers = λ at c b lock v w ch. refl;
   }

@@ -10,11 +10,12 @@ use Rattle.machine.specs.Checks.{ask}
 use Rattle.machine.specs.Rules.{fundCustomer, fundMerchant, mutualClose, customerClose, dispute, settle}
 use Rattle.machine.specs.Machine.{answer, concluded, ruling}
 use Rattle.machine.specs.Figures.{Figures}
+use Rattle.machine.specs.declared.state.Setup.{Setup}
 use Rattle.machine.proofs.Laws.{same-refl}
 
-pub figures : (key lock : List ℕ) (d x v w : ℕ) → Figures key lock d x v w
+pub figures : (key lock id : List ℕ) (d x v w : ℕ) (setup : Setup) → Figures key lock id d x v w setup
 unfolding deficit total held readChannel ask fundCustomer fundMerchant mutualClose customerClose dispute settle answer concluded ruling
-figures key lock d x v w = record {
+figures key lock id d x v w setup = record {
   funds-900 = refl;
   funds-899 = refl;
   funds-100 = refl;

@@ -1,15 +1,15 @@
--- Document 01, "Book": T, held, soundness, readings; the opening (under "Checks").
+-- Document 01, "Book": T, held, soundness, readings; document 02, No. 1: the default that a sound book keeps in its range.
 use mathlib.Core.Bool.{Bool, true, cond, not, _&&_, _||_}
 use mathlib.Core.List.{List, [], _∷_}
 use Prim.Native.Nat.{ℕ, _+_, _-_, _^_}
-use lib.ListN.{length, getD, set, replicate}
+use lib.ListN.{getD, set, replicate}
 use lib.Dec.{eqb, leb, ltb}
 use Rattle.machine.specs.declared.units.Cents.{Cents}
 use Rattle.machine.specs.declared.units.Seconds.{Seconds}
 use Rattle.machine.specs.declared.state.Party.{Party}
 use Rattle.machine.specs.declared.state.Channel.{Channel}
+use Rattle.machine.specs.declared.state.Setup.{Setup}
 use Rattle.machine.specs.declared.state.Book.{Book}
-use Rattle.machine.specs.declared.answers.Opened.{Opened}
 use Rattle.machine.specs.declared.answers.Reading.{Reading}
 
 abbrev pub cents : ℕ → Cents
@@ -32,9 +32,12 @@ shortest = 3600
 abbrev pub longest : ℕ
 longest = 2592000
 
+abbrev pub ranged : ℕ → Bool
+ranged d = leb shortest d && leb d longest
+
 -- The number of the book's layout: a landing that changes the book changes it.
 abbrev pub layout : ℕ
-layout = 2
+layout = 3
 
 -- The mark of a layout: "arbiter" in bytes, then its number.
 abbrev pub markOf : ℕ → ℕ
@@ -70,7 +73,7 @@ closing ch = eqb (ch .status) 4 || eqb (ch .status) 5
 -- Past status 0: T, the delay and, in status 5, the kept c are in range.
 abbrev pub soundTerms : Channel → Bool
 soundTerms ch =
-    leb (agreed ch) limit && (leb shortest (ch .delay) && leb (ch .delay) longest) && (not (eqb (ch .status) 5) || leb (ch .kept .0) (agreed ch))
+    leb (agreed ch) limit && ranged (ch .delay) && (not (eqb (ch .status) 5) || leb (ch .kept .0) (agreed ch))
 
 unfoldable pub soundChannel : Channel → Bool
 soundChannel ch = leb (ch .status) 6 && (eqb (ch .status) 0 || soundTerms ch)
@@ -79,8 +82,12 @@ abbrev pub all : (Channel → Bool) → List Channel → Bool
 all p [] = true
 all p (ch ∷ l) = p ch && all p l
 
+-- What the opening fixed is in its limits.
+abbrev pub soundSetup : Setup → Bool
+soundSetup s = ranged (s .delay)
+
 unfoldable pub sound : Book → Bool
-sound b = eqb (b .mark) theMark && leb (b .clock .0) limit && all soundChannel (b .channels)
+sound b = eqb (b .mark) theMark && leb (b .clock .0) limit && soundSetup (b .setup) && all soundChannel (b .channels)
 
 -- ---- one channel of a book, and the book with a part replaced
 
@@ -100,33 +107,10 @@ abbrev pub channel : Book → ℕ → Channel
 channel b n = getD (b .channels) n noChannel
 
 abbrev pub withChannel : Book → ℕ → Channel → Book
-withChannel b n ch = record { mark = b .mark; id = b .id; clock = b .clock; channels = set (b .channels) n ch }
+withChannel b n ch = record { mark = b .mark; id = b .id; setup = b .setup; clock = b .clock; channels = set (b .channels) n ch }
 
 abbrev pub withClock : Book → ℕ → Book
-withClock b t = record { mark = b .mark; id = b .id; clock = seconds t; channels = b .channels }
-
--- ---- the opening: a fresh book with the id, and status 0 and zeros in every channel; an id not 16 bytes long gives 2
-
-abbrev pub unused : Channel
-unused = record {
-  customer = party (replicate 56 0) 0;
-  merchant = party (replicate 56 0) 0;
-  deadline = seconds 0;
-  kept = cents 0;
-  delay = 0;
-  status = 0;
-  lock = replicate 32 0;
-}
-
--- A book to lend: zeros, and no mark.
-abbrev pub blankBook : Book
-blankBook = record { mark = 0; id = replicate 16 0; clock = seconds 0; channels = replicate 64 unused }
-
-unfoldable pub fresh : List ℕ → Book
-fresh id = record { mark = theMark; id = id; clock = seconds 0; channels = replicate 64 unused }
-
-unfoldable pub opening : Book → List ℕ → Opened
-opening lent id = cond (eqb (length id) 16) (record { book = fresh id; refusal = 0 }) (record { book = lent; refusal = 2 })
+withClock b t = record { mark = b .mark; id = b .id; setup = b .setup; clock = seconds t; channels = b .channels }
 
 -- ---- a reading: the deadline is 0 outside 4 and 5, the closing's customer part and lock zeros outside 5
 

@@ -7,7 +7,8 @@ use Prim.Native.Nat.{ℕ, _+_, _<_}
 use lib.ListN.{length, getD}
 use lib.Dec.{eqb, leb, ltb}
 use Rattle.machine.specs.Format.{opcode, size, time, place, amount, customerDeposit, merchantDeposit, delay, customerPart, merchantPart, lock, merchantKey, secret, signatures, signature, message}
-use Rattle.machine.specs.Book.{cents, opening, reading}
+use Rattle.machine.specs.Book.{cents, reading}
+use Rattle.machine.specs.Opening.{Opening, opening}
 use Rattle.machine.specs.Checks.{Verdict}
 use Rattle.machine.specs.Rules.{delayed}
 use Rattle.machine.specs.Machine.{step}
@@ -120,15 +121,15 @@ closed l = has 5 l || has 6 l || has 9 l || has 10 l
 abbrev pub closings : List Event → ℕ
 closings l = count 5 l + count 6 l + count 9 l + count 10 l
 
--- D_c and T of the accepted 02; its delay, with 0 read as in 02.
+-- D_c and T of the accepted 02; its delay, with 0 read as the default that the opening gave.
 abbrev pub agreedCustomer : List Event → ℕ
 agreedCustomer l = customerDeposit ((eventOf 2 l) .string)
 
 abbrev pub agreedTotal : List Event → ℕ
 agreedTotal l = customerDeposit ((eventOf 2 l) .string) + merchantDeposit ((eventOf 2 l) .string)
 
-abbrev pub agreedDelay : List Event → ℕ
-agreedDelay l = delayed (delay ((eventOf 2 l) .string))
+abbrev pub agreedDelay : Opening → List Event → ℕ
+agreedDelay o l = delayed (o .settings .delay) (delay ((eventOf 2 l) .string))
 
 -- c and b of the accepted 06 or 07.
 abbrev pub parts : ℕ → List Event → Paid
@@ -148,11 +149,11 @@ split l =
     nothing))))
 
 -- A customer's closing is before its deadline: an accepted 07, no accepted 09 or 0A, and the clock after the list is early.
-pub record Timely (l : List Event) (now : ℕ) : Type 0 where
+pub record Timely (o : Opening) (l : List Event) (now : ℕ) : Type 0 where
   pub closing : has 7 l ≡ true
   pub undisputed : has 9 l ≡ false
   pub unsettled : has 10 l ≡ false
-  pub early : now < (eventOf 7 l) .clock + agreedDelay l
+  pub early : now < (eventOf 7 l) .clock + agreedDelay o l
 
 -- ---- the claim
 
@@ -172,22 +173,22 @@ module _ (check : List ℕ → List ℕ → List ℕ → Verdict) (hash : List �
 
   -- The dispute: a 09 of whole length that names n; its secret hashes to the lock, and the signature check says yes to its signature for
   -- the key of the merchant in n's 02 and the signed message of this 09, with the id from the opening.
-  pub record Disputes (id : List ℕ) (n : ℕ) (l : List Event) (d : List ℕ) : Type 0 where
+  pub record Disputes (o : Opening) (n : ℕ) (l : List Event) (d : List ℕ) : Type 0 where
     pub code : opcode d ≡ 9
     pub whole : length d ≡ size 9
     pub named : place d ≡ n
     pub opens : hash (secret d) ≡ lock ((eventOf 7 l) .string)
-    pub good : (check (merchantKey ((eventOf 2 l) .string)) (message (signatures 9) id d) (signature (signatures 9) d)) .good ≡ true
+    pub good : (check (merchantKey ((eventOf 2 l) .string)) (message (signatures 9) (o .id) d) (signature (signatures 9) d)) .good ≡ true
 
-  -- Of channel n of a book with this id and history, where l are the strings of n.
-  pub record Accounted (id : List ℕ) (b : Book) (h : List Entry) (n : ℕ) (l : List Event) : Type 0 where
+  -- Of channel n of a book with this opening and history, where l are the strings of n.
+  pub record Accounted (o : Opening) (b : Book) (h : List Entry) (n : ℕ) (l : List Event) : Type 0 where
     pub read : (reading b n) .refusal ≡ 0
     pub conserved : deposits l ≡ (reading b n) .held .0 + (paid l) .customer + (paid l) .merchant
     pub closes : closed l ≡ eqb ((reading b n) .status) 6
     pub splits : closed l ≡ true → paid l ≡ split l
     pub disputed : has 9 l ≡ true → paid l ≡ allMerchant l
     pub elsewhere : (i : ℕ) → i < length h → ofNone (entryAt h i) ≡ true → paidBy ((entryAt h i) .answer) ≡ nothing
-    pub dispute : Timely l (clock h) → (d : List ℕ) → Disputes id n l d → (step check hash b d) .answer .refusal ≡ 0
+    pub dispute : Timely o l (clock h) → (d : List ℕ) → Disputes o n l d → (step check hash b d) .answer .refusal ≡ 0
     -- its words are well said: no string without a 02, each command at most once, one of 06 and 07, one that closes
     pub begun : (k : ℕ) → has k l ≡ true → has 2 l ≡ true
     pub once : (k : ℕ) → count k l < 2
@@ -197,4 +198,4 @@ module _ (check : List ℕ → List ℕ → List ℕ → Verdict) (hash : List �
   -- After every list given to a book just opened.
   abbrev pub ThirdDemand : Type 0
   ThirdDemand =
-      (lent : Book) (id : List ℕ) → (opening lent id) .refusal ≡ 0 → (l : List (List ℕ)) (n : ℕ) → n < 64 → let t = after (record { book = (opening lent id) .book; history = [] }) l in Accounted id (t .book) (t .history) n (strings n (t .history))
+      (lent : Book) (o : Opening) → (opening lent o) .refusal ≡ 0 → (l : List (List ℕ)) (n : ℕ) → n < 64 → let t = after (record { book = (opening lent o) .book; history = [] }) l in Accounted o (t .book) (t .history) n (strings n (t .history))

@@ -11,6 +11,7 @@ use Rattle.machine.specs.Rules.{Payment, pay, Plan, establish, fundCusto
 use Rattle.machine.specs.declared.units.Cents.{Cents}
 use Rattle.machine.specs.declared.state.Party.{Party}
 use Rattle.machine.specs.declared.state.Channel.{Channel}
+use Rattle.machine.specs.declared.state.Context.{Context}
 use Rattle.machine.specs.declared.state.Book.{Book}
 use Rattle.machine.specs.declared.answers.Answer.{Answer}
 use Rattle.machine.specs.declared.answers.Judged.{Judged}
@@ -75,6 +76,10 @@ shared b s own = test 99 (sound b) ∷ formed s own
 abbrev pub carried : Judged → Book → Order → Stepped
 carried j b o = record { book = cond (passed j) (o .book) b; answer = answer j (o .pays .customer) (o .pays .merchant) }
 
+-- What the rules read of a book.
+abbrev pub contextOf : Book → Context
+contextOf b = record { id = b .id; clock = b .clock; setup = b .setup }
+
 -- The two sides of an 02.
 abbrev pub customerOf : List ℕ → Party
 customerOf s = party (customerKey s) (customerDeposit s)
@@ -92,30 +97,30 @@ verdict check key id s end at = check key (message end id s) (signature at s)
 
 module _ (check : List ℕ → List ℕ → List ℕ → Verdict) (hash : List ℕ → List ℕ) where
   -- The rules in the order of their opcodes, 00 to 0A, at the operands of a command. In 06 and 07 the merchant's signature is the first.
-  abbrev pub plans : List ℕ → ℕ → List ℕ → Channel → List Plan
-  plans id now s ch =
+  abbrev pub plans : Context → List ℕ → Channel → List Plan
+  plans at s ch =
       let customer = ch .customer .key in
       let merchant = ch .merchant .key in
-      let first : ℕ → List ℕ → Verdict = λ op key. verdict check key id s (signatures op) (signatures op) in
-      let second : ℕ → List ℕ → Verdict = λ op key. verdict check key id s (signatures op) (signatures op + 1452) in
+      let first : ℕ → List ℕ → Verdict = λ op key. verdict check key (at .id) s (signatures op) (signatures op) in
+      let second : ℕ → List ℕ → Verdict = λ op key. verdict check key (at .id) s (signatures op) (signatures op + 1452) in
       noPlan ch
       ∷ noPlan ch
-      ∷ establish (customerOf s) (merchantOf s) (delay s) ch
+      ∷ establish at (customerOf s) (merchantOf s) (delay s) ch
       ∷ fundCustomer (amount s) ch
       ∷ fundMerchant (amount s) ch
       ∷ reclaim (first 5 customer) ch
       ∷ mutualClose (customerPart 6 s) (merchantPart 6 s) (first 6 merchant) (second 6 customer) ch
-      ∷ customerClose now (lock s) (customerPart 7 s) (merchantPart 7 s) (first 7 merchant) (second 7 customer) ch
-      ∷ merchantClose now (first 8 merchant) ch
-      ∷ dispute now (hash (secret s)) (first 9 merchant) ch
-      ∷ settle now ch
+      ∷ customerClose at (lock s) (customerPart 7 s) (merchantPart 7 s) (first 7 merchant) (second 7 customer) ch
+      ∷ merchantClose at (first 8 merchant) ch
+      ∷ dispute at (hash (secret s)) (first 9 merchant) ch
+      ∷ settle at ch
       ∷ []
 
-  unfoldable pub plan : ℕ → List ℕ → ℕ → List ℕ → Channel → Plan
-  plan op id now s ch = getD (plans id now s ch) op (noPlan ch)
+  unfoldable pub plan : ℕ → Context → List ℕ → Channel → Plan
+  plan op at s ch = getD (plans at s ch) op (noPlan ch)
 
   abbrev pub planned : Book → List ℕ → Plan
-  planned b s = plan (opcode s) (b .id) (b .clock .0) s (channel b (place s))
+  planned b s = plan (opcode s) (contextOf b) s (channel b (place s))
 
   abbrev pub order : Book → List ℕ → Order
   order b s = cond (eqb (opcode s) 1) (setClock b (time s)) (onChannel b (place s) (planned b s))

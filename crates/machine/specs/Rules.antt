@@ -1,16 +1,17 @@
 -- Document 01, "Commands" and checks 5 to 12: for each of 02 to 0A its checks on the channel, in the paper's order, what becomes of the
--- channel, and whom it pays. A rule takes the operands and the verdicts.
+-- channel, and whom it pays. A rule takes what it reads of the book, the operands and the verdicts. Document 02, No. 1: a delay of 0.
 use mathlib.Core.Bool.{Bool, cond, not, _&&_, _||_}
 use mathlib.Core.List.{List, [], _∷_}
 use Prim.Native.Nat.{ℕ, _+_}
 use lib.Dec.{eqb, leb, ltb}
 use Rattle.wire.specs.Parts.{same}
 use Rattle.lms.specs.Layout.{typedKey}
-use Rattle.machine.specs.Book.{cents, seconds, limit, shortest, longest, total, closing}
+use Rattle.machine.specs.Book.{cents, seconds, limit, ranged, total, closing}
 use Rattle.machine.specs.Checks.{Check, test, signed, Verdict}
 use Rattle.machine.specs.declared.units.Cents.{Cents}
 use Rattle.machine.specs.declared.state.Party.{Party}
 use Rattle.machine.specs.declared.state.Channel.{Channel}
+use Rattle.machine.specs.declared.state.Context.{Context}
 
 pub record Payment : Type 0 where
   pub customer : Cents
@@ -44,43 +45,43 @@ become status ch = moved ch status (ch .deadline .0) (ch .kept .0) (ch .lock)
 
 -- ---- 02 establish
 
--- A delay of 0 stands for 86,400.
-unfoldable pub delayed : ℕ → ℕ
-delayed d = cond (eqb d 0) 86400 d
+-- A delay of 0 stands for the default.
+unfoldable pub delayed : ℕ → ℕ → ℕ
+delayed default d = cond (eqb d 0) default d
 
 -- Check 6: both keys carry types 6 and 4, and they differ.
 unfoldable pub keyed : List ℕ → List ℕ → Bool
 keyed customer merchant = typedKey customer && typedKey merchant && not (same customer merchant)
 
--- Check 7.
+-- Check 7, on the operand.
 abbrev pub delayFits : ℕ → Bool
-delayFits d = eqb d 0 || (leb shortest d && leb d longest)
+delayFits d = eqb d 0 || ranged d
 
 -- Check 8 of 02: D_c at least 1, the sum at most 2^63 - 1, as whole numbers.
 abbrev pub depositsFit : ℕ → ℕ → Bool
 depositsFit c b = leb 1 c && leb (c + b) limit
 
 -- The keys, the deposits, the delay and the status are named: deadline, kept part and lock stay.
-abbrev pub established : Party → Party → ℕ → Channel → Channel
-established customer merchant d ch = record {
+abbrev pub established : ℕ → Party → Party → ℕ → Channel → Channel
+established default customer merchant d ch = record {
   status = 1;
   customer = customer;
   merchant = merchant;
-  delay = delayed d;
+  delay = delayed default d;
   deadline = ch .deadline;
   kept = ch .kept;
   lock = ch .lock;
 }
 
-unfoldable pub establish : Party → Party → ℕ → Channel → Plan
-establish customer merchant d ch = record {
+unfoldable pub establish : Context → Party → Party → ℕ → Channel → Plan
+establish at customer merchant d ch = record {
   checks =
       test 5 (eqb (ch .status) 0)
       ∷ test 6 (keyed (customer .key) (merchant .key))
       ∷ test 7 (delayFits d)
       ∷ test 8 (depositsFit (customer .deposit .0) (merchant .deposit .0))
       ∷ [];
-  channel = established customer merchant d ch;
+  channel = established (at .setup .delay) customer merchant d ch;
   pays = pay 0 0;
 }
 
@@ -138,38 +139,38 @@ mutualClose c b byMerchant byCustomer ch = record {
 
 -- ---- 07 customer closes: pays the merchant b now, keeps c and the lock. From status 3 the deadline is not looked at
 
-unfoldable pub customerClose : ℕ → List ℕ → ℕ → ℕ → Verdict → Verdict → Channel → Plan
-customerClose now lock c b byMerchant byCustomer ch = record {
+unfoldable pub customerClose : Context → List ℕ → ℕ → ℕ → Verdict → Verdict → Channel → Plan
+customerClose at lock c b byMerchant byCustomer ch = record {
   checks =
       test 5 (eqb (ch .status) 3 || eqb (ch .status) 4)
       ∷ test 8 (sharesAll c b ch)
-      ∷ test 9 (eqb (ch .status) 3 || ltb now (ch .deadline .0))
+      ∷ test 9 (eqb (ch .status) 3 || ltb (at .clock .0) (ch .deadline .0))
       ∷ signed 11 byMerchant
       ∷ signed 12 byCustomer
       ∷ [];
-  channel = moved ch 5 (now + ch .delay) c lock;
+  channel = moved ch 5 (at .clock .0 + ch .delay) c lock;
   pays = pay 0 b;
 }
 
 -- ---- 08 merchant closes
 
-unfoldable pub merchantClose : ℕ → Verdict → Channel → Plan
-merchantClose now byMerchant ch = record {
+unfoldable pub merchantClose : Context → Verdict → Channel → Plan
+merchantClose at byMerchant ch = record {
   checks =
       test 5 (eqb (ch .status) 3)
       ∷ signed 11 byMerchant
       ∷ [];
-  channel = moved ch 4 (now + ch .delay) (ch .kept .0) (ch .lock);
+  channel = moved ch 4 (at .clock .0 + ch .delay) (ch .kept .0) (ch .lock);
   pays = pay 0 0;
 }
 
 -- ---- 09 dispute: pays the merchant the kept c
 
-unfoldable pub dispute : ℕ → List ℕ → Verdict → Channel → Plan
-dispute now hashed byMerchant ch = record {
+unfoldable pub dispute : Context → List ℕ → Verdict → Channel → Plan
+dispute at hashed byMerchant ch = record {
   checks =
       test 5 (eqb (ch .status) 5)
-      ∷ test 9 (ltb now (ch .deadline .0))
+      ∷ test 9 (ltb (at .clock .0) (ch .deadline .0))
       ∷ test 10 (same hashed (ch .lock))
       ∷ signed 11 byMerchant
       ∷ [];
@@ -179,11 +180,11 @@ dispute now hashed byMerchant ch = record {
 
 -- ---- 0A settle: from 4 pays the merchant T, from 5 pays the customer the kept c
 
-unfoldable pub settle : ℕ → Channel → Plan
-settle now ch = record {
+unfoldable pub settle : Context → Channel → Plan
+settle at ch = record {
   checks =
       test 5 (closing ch)
-      ∷ test 9 (leb (ch .deadline .0) now)
+      ∷ test 9 (leb (ch .deadline .0) (at .clock .0))
       ∷ [];
   channel = become 6 ch;
   pays = cond (eqb (ch .status) 4) (pay 0 (total ch)) (pay (ch .kept .0) 0);

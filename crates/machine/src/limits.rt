@@ -1,7 +1,7 @@
-// The limits of document 01, and the mark.
+// The limits of documents 01 and 02, and the mark.
 
 // The number of the book's layout: a landing that changes the book changes it.
-pub const LAYOUT: u32 = 2;
+pub const LAYOUT: u32 = 3;
 
 // The mark that every opening writes: "arbiter" in bytes, then the layout.
 pub const MARK: u64 = 0x6172626974657200 + LAYOUT as u64;
@@ -10,6 +10,6 @@ pub const MARK: u64 = 0x6172626974657200 + LAYOUT as u64;
 pub const LIMIT: u64 = 9223372036854775807;
 
 // The shortest and the longest delay.
-pub const SHORTEST: u32 = 3600;
+pub const SHORTEST: u64 = 3600;
 
-pub const LONGEST: u32 = 2592000;
+pub const LONGEST: u64 = 2592000;

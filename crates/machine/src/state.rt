@@ -21,11 +21,31 @@ pub struct Channel {
     pub lock: [u8; 32],
 }
 
+// What an opening is given: the delay that a 0 in a 02 stands for.
+#[repr(C)]
+pub struct Settings {
+    pub delay: u32,
+}
+
+// What a book keeps of its opening. Whole words, so that no hole comes before the clock.
+#[repr(C)]
+pub struct Setup {
+    pub delay: u64,
+}
+
 // The mark says that an opening wrote the book.
 #[repr(C)]
 pub struct Book {
     pub mark: u64,
     pub id: [u8; 16],
+    pub setup: Setup,
     pub clock: Seconds,
     pub channels: [Channel; 64],
+}
+
+// What a rule reads of the book beside its channel.
+pub struct Context {
+    pub id: [u8; 16],
+    pub clock: Seconds,
+    pub setup: Setup,
 }
