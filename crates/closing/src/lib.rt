@@ -32,12 +32,13 @@ pub fn mutual_close(ch: Channel, at: Context, command: &[u8]) -> Ruled
 {
     let customer_key = ch.customer.key;
     let merchant_key = ch.merchant.key;
+    let id = at.id;
     let customer = Cents(u64_at(command, 3));
     let merchant = Cents(u64_at(command, 11));
     let j = tested(unjudged(), 5, ch.status == 3);
     let j = tested(j, 8, sums_to(customer, merchant, total_of(ch)));
-    let j = signature_tested(j, 11, merchant_key, at.id, command, 19, 19);
-    let j = signature_tested(j, 12, customer_key, at.id, command, 19, 1471);
+    let j = signature_tested(j, 11, merchant_key, id, command, 19, 19);
+    let j = signature_tested(j, 12, customer_key, id, command, 19, 1471);
     let mut after = ch;
     after.status = 6;
     ruled(j, ch, after, customer, merchant)
@@ -57,13 +58,14 @@ pub fn customer_close(ch: Channel, at: Context, command: &[u8]) -> Ruled
 {
     let customer_key = ch.customer.key;
     let merchant_key = ch.merchant.key;
+    let id = at.id;
     let customer = Cents(u64_at(command, 35));
     let merchant = Cents(u64_at(command, 43));
     let j = tested(unjudged(), 5, (ch.status == 3) | (ch.status == 4));
     let j = tested(j, 8, sums_to(customer, merchant, total_of(ch)));
     let j = tested(j, 9, (ch.status == 3) | (at.clock.0 < ch.deadline.0));
-    let j = signature_tested(j, 11, merchant_key, at.id, command, 51, 51);
-    let j = signature_tested(j, 12, customer_key, at.id, command, 51, 1503);
+    let j = signature_tested(j, 11, merchant_key, id, command, 51, 51);
+    let j = signature_tested(j, 12, customer_key, id, command, 51, 1503);
     let lock = digest_at(command, 3);
     let deadline = deadline_from(at.clock, ch.delay);
     let mut after = ch;
@@ -80,8 +82,9 @@ pub fn merchant_close(ch: Channel, at: Context, command: &[u8]) -> Ruled
     ensures { λ r. ⌜ r ≡ ruling ch (merchantClose at (verdict lmsVerdict (ch .merchant .key) (at .id) (now (command .entry)) 3 3) ch) ⌝ }
 {
     let key = ch.merchant.key;
+    let id = at.id;
     let j = tested(unjudged(), 5, ch.status == 3);
-    let j = signature_tested(j, 11, key, at.id, command, 3, 3);
+    let j = signature_tested(j, 11, key, id, command, 3, 3);
     let deadline = deadline_from(at.clock, ch.delay);
     let mut after = ch;
     after.status = 4;
@@ -96,10 +99,11 @@ pub fn dispute(ch: Channel, at: Context, command: &[u8]) -> Ruled
 {
     let lock = ch.lock;
     let key = ch.merchant.key;
+    let id = at.id;
     let j = tested(unjudged(), 5, ch.status == 5);
     let j = tested(j, 9, at.clock.0 < ch.deadline.0);
     let j = secret_tested(j, lock, command);
-    let j = signature_tested(j, 11, key, at.id, command, 35, 35);
+    let j = signature_tested(j, 11, key, id, command, 35, 35);
     let mut after = ch;
     after.status = 6;
     ruled(j, ch, after, Cents(0), ch.kept)

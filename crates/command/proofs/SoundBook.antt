@@ -1,4 +1,4 @@
--- What a sound book tells of its clock and of each channel, and the test of its channels one by one.
+-- What a sound book tells of its clock, of what the opening fixed and of each channel, and the test of its channels one by one.
 use mathlib.Core.Path.{_≡_, refl, sym, ap, _∙_}
 use mathlib.Core.Bool.{Bool, true, _&&_, and-true, and-assoc}
 use mathlib.Core.List.{List, [], _∷_, map}
@@ -9,7 +9,7 @@ use borrow.Author.Tests.{leb-true}
 use lib.Dec.{leb, eqb}
 use lib.ListN.{length, take, getD, length-map}
 use lib.Seq.{take-all}
-use Rattle.machine.specs.Book.{limit, theMark, soundChannel, all, sound, channel, noChannel}
+use Rattle.machine.specs.Book.{limit, theMark, soundChannel, all, soundSetup, sound, channel, noChannel}
 use Rattle.machine.specs.declared.state.Channel.{Channel}
 use Rattle.machine.specs.declared.state.Book.{Book}
 use Rattle.machine.proofs.Laws.{and-both}
@@ -20,16 +20,23 @@ all-at p [] i d o e = o
 all-at p (x ∷ l) zero d o e = (and-both (p x) (all p l) e) .0
 all-at p (x ∷ l) (suc i) d o e = all-at p l i d o ((and-both (p x) (all p l) e) .1)
 
-pub sound-clock : (b : Book) → sound b ≡ true → b .clock .0 ≤ limit
+-- What is asked of the book beside its channels.
+abbrev pub header : Book → Bool
+header b = eqb (b .mark) theMark && leb (b .clock .0) limit && soundSetup (b .setup)
+
+sound-parts : (b : Book) → sound b ≡ true → (header b ≡ true) × (all soundChannel (b .channels) ≡ true)
 unfolding sound
-sound-clock b e =
-    let h = (and-both (eqb (b .mark) theMark && leb (b .clock .0) limit) (all soundChannel (b .channels)) e) .0 in
-    leb-true (b .clock .0) limit ((and-both (eqb (b .mark) theMark) (leb (b .clock .0) limit) h) .1)
+sound-parts b e = and-both (header b) (all soundChannel (b .channels)) e
+
+-- The setup and the clock.
+pub sound-context : (b : Book) → sound b ≡ true → (soundSetup (b .setup) ≡ true) × (b .clock .0 ≤ limit)
+sound-context b e =
+    let h = and-both (eqb (b .mark) theMark && leb (b .clock .0) limit) (soundSetup (b .setup)) ((sound-parts b e) .0) in
+    (h .1, leb-true (b .clock .0) limit ((and-both (eqb (b .mark) theMark) (leb (b .clock .0) limit) (h .0)) .1))
 
 pub sound-at : (b : Book) (n : ℕ) → sound b ≡ true → soundChannel (channel b n) ≡ true
-unfolding sound soundChannel
-sound-at b n e =
-    all-at soundChannel (b .channels) n noChannel refl ((and-both (eqb (b .mark) theMark && leb (b .clock .0) limit) (all soundChannel (b .channels)) e) .1)
+unfolding soundChannel
+sound-at b n e = all-at soundChannel (b .channels) n noChannel refl ((sound-parts b e) .1)
 
 -- An array of structs: what owning it tells is of the machine's values.
 pub length-of-map : (X Y : Type 0) (f : X → Y) (l : List X) (n : ℕ) → length (map f l) ≡ n → length l ≡ n
@@ -42,20 +49,19 @@ all-more p [] i d h = let z : ⊥ = omega arith in absurd z
 all-more p (x ∷ l) zero d h = sym (and-true (p x))
 all-more p (x ∷ l) (suc i) d h = and-assoc (p x) (all p (take i l)) (p (getD l i d)) ∙ ap (λ (t : Bool). p x && t) (all-more p l i d (omega arith))
 
--- After i turns the flag says whether mark and clock, and the first i channels, are sound.
+-- After i turns the flag says whether the header and the first i channels are sound.
 abbrev pub Tested : Book → Bool → ℕ → Type 0
-Tested b ok i = (i ≤ 64) × (ok ≡ (eqb (b .mark) theMark && leb (b .clock .0) limit && all soundChannel (take i (b .channels))))
+Tested b ok i = (i ≤ 64) × (ok ≡ (header b && all soundChannel (take i (b .channels))))
 
-pub tested-none : (b : Book) (ok : Bool) → ok ≡ (eqb (b .mark) theMark && leb (b .clock .0) limit) → Tested b ok 0
+pub tested-none : (b : Book) (ok : Bool) → ok ≡ header b → Tested b ok 0
 tested-none b ok e = (omega arith, e ∙ sym (and-true _))
 
 module _ (b : Book) (h : length (b .channels) ≡ 64) (ok : Bool) (i : ℕ) (t : Tested b ok i) where
   pub tested-more : (x : Bool) → i < 64 → x ≡ soundChannel (channel b i) → Tested b (ok && x) (i + 1)
   tested-more x l e =
-      let head = eqb (b .mark) theMark && leb (b .clock .0) limit in
       let rest = all soundChannel (take i (b .channels)) in (
         omega arith,
-        rw (t .1, e, add-one) (and-assoc head rest (soundChannel (channel b i)) ∙ ap (λ (y : Bool). head && y) (all-more soundChannel (b .channels) i noChannel (omega arith))),
+        rw (t .1, e, add-one) (and-assoc (header b) rest (soundChannel (channel b i)) ∙ ap (λ (y : Bool). header b && y) (all-more soundChannel (b .channels) i noChannel (omega arith))),
       )
 
   pub tested-all : 64 ≤ i → ok ≡ sound b

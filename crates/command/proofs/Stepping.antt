@@ -50,10 +50,10 @@ answer-no j c m h = rw (ne-eqb _ _ h)
 -- A refused rule writes back what stood there.
 write-cond : (b : Book) (n : ℕ) (ch : Channel) (x : Bool) → withChannel b n (cond x ch (channel b n)) ≡ cond x (withChannel b n ch) b
 write-cond b n ch true = refl
-write-cond b n ch false = ap (λ (l : List Channel). record { mark = b .mark; id = b .id; clock = b .clock; channels = l }) (set-getD (b .channels) n noChannel)
+write-cond b n ch false = ap (λ (l : List Channel). record { mark = b .mark; id = b .id; setup = b .setup; clock = b .clock; channels = l }) (set-getD (b .channels) n noChannel)
 
 -- A refused 01 leaves the clock that stood there.
-clock-cond : (b : Book) (t : ℕ) (x : Bool) → _≡_ {A = Book} (record { mark = b .mark; id = b .id; clock = cond x (seconds t) (b .clock); channels = b .channels }) (cond x (withClock b t) b)
+clock-cond : (b : Book) (t : ℕ) (x : Bool) → _≡_ {A = Book} (record { mark = b .mark; id = b .id; setup = b .setup; clock = cond x (seconds t) (b .clock); channels = b .channels }) (cond x (withClock b t) b)
 clock-cond b t true = refl
 clock-cond b t false = refl
 
@@ -96,9 +96,9 @@ module _ (check : List ℕ → List ℕ → List ℕ → Verdict) (hash : List �
       carried-stops j b o h ∙ step-is o j refl (judge-stop (o .checks) j h)
 
   module _ (h : j .refusal ≡ 0) (k : j .steps ≡ 0) where
-    pub step-clock : opcode s ≡ 1 → (d : Clocked) → d ≡ clocked (b .clock) (time s) → record { book = record { mark = b .mark; id = b .id; clock = d .clock; channels = b .channels }; answer = d .answer } ≡ step check hash b s
+    pub step-clock : opcode s ≡ 1 → (d : Clocked) → d ≡ clocked (b .clock) (time s) → record { book = record { mark = b .mark; id = b .id; setup = b .setup; clock = d .clock; channels = b .channels }; answer = d .answer } ≡ step check hash b s
     step-clock o d q =
-        ap (λ (x : Clocked). record { book = record { mark = b .mark; id = b .id; clock = x .clock; channels = b .channels }; answer = x .answer }) q
+        ap (λ (x : Clocked). record { book = record { mark = b .mark; id = b .id; setup = b .setup; clock = x .clock; channels = b .channels }; answer = x .answer }) q
         ∙ ap (λ (x : Book). record { book = x; answer = (clocked (b .clock) (time s)) .answer }) (clock-cond b (time s) (passed (judge clean ((setClock b (time s)) .checks))))
         ∙ step-is (setClock b (time s)) _ (rw (eq-eqb _ _ o)) (ap (λ (x : Judged). judge x ((setClock b (time s)) .checks)) (is-clean j h k))
 

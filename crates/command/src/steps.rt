@@ -100,8 +100,9 @@ pub fn step(mut book: Book, command: &[u8]) -> Stepped
             let n = u16_at(command, 1) as usize;
             if n < 64 {
                 let ch = book.channels[n];
+                let id = book.id;
                 let at = Context {
-                    id: book.id,
+                    id,
                     clock: book.clock,
                     setup: book.setup,
                 };

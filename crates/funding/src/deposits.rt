@@ -47,8 +47,9 @@ pub fn reclaim(ch: Channel, at: Context, command: &[u8]) -> Ruled
     ensures { λ r. ⌜ r ≡ ruling ch (reclaim (verdict lmsVerdict (ch .customer .key) (at .id) (now (command .entry)) 3 3) ch) ⌝ }
 {
     let key = ch.customer.key;
+    let id = at.id;
     let j = tested(unjudged(), 5, ch.status == 2);
-    let j = signature_tested(j, 12, key, at.id, command, 3, 3);
+    let j = signature_tested(j, 12, key, id, command, 3, 3);
     let mut after = ch;
     after.status = 6;
     ruled(j, ch, after, ch.customer.deposit, Cents(0))

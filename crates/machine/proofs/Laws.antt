@@ -1,11 +1,12 @@
--- Laws of truth values, and of equal byte strings.
+-- Laws of truth values, of delays in range, and of equal byte strings.
 use mathlib.Core.Path.{_≡_, refl, sym, _∙_}
 use mathlib.Core.Bool.{Bool, true, false, true≢false, false≢true, _&&_, _||_}
 use mathlib.Core.List.{List, [], _∷_}
-use Prim.Native.Nat.{ℕ}
-use lib.Dec.{eqb}
-use borrow.Author.Tests.{eqb-true, eq-eqb}
+use Prim.Native.Nat.{ℕ, _≤_}
+use lib.Dec.{eqb, leb}
+use borrow.Author.Tests.{eqb-true, eq-eqb, leb-true}
 use Rattle.wire.specs.Parts.{same}
+use Rattle.machine.specs.Book.{shortest, longest, ranged}
 
 pub clash : {x : Bool} → x ≡ true → x ≡ false → ⊥
 clash p q = true≢false (sym p ∙ q)
@@ -32,6 +33,10 @@ or-other false b h n = h
 pub or-right : (a b : Bool) → b ≡ true → (a || b) ≡ true
 or-right true b h = refl
 or-right false b h = h
+
+-- What the test of a delay tells.
+pub in-range : (d : ℕ) → ranged d ≡ true → (shortest ≤ d) × (d ≤ longest)
+in-range d h = let p = and-both (leb shortest d) (leb d longest) h in (leb-true _ _ (p .0), leb-true _ _ (p .1))
 
 pub same-refl : (l : List ℕ) → same l l ≡ true
 unfolding same

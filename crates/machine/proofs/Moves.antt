@@ -16,7 +16,7 @@ use Rattle.machine.specs.declared.state.Channel.{Channel}
 use Rattle.machine.specs.declared.state.Setup.{Setup}
 use Rattle.machine.specs.declared.state.Context.{Context}
 use Rattle.machine.specs.declared.answers.Answer.{Answer}
-use Rattle.machine.proofs.Laws.{clash, and-both, or-neither, or-other, or-right}
+use Rattle.machine.proofs.Laws.{clash, and-both, in-range, or-neither, or-other, or-right}
 use Rattle.machine.proofs.Judging.{Passed}
 use Rattle.machine.proofs.Life.{Lacks, unclosed, unanswered, running, unmatched, unfunded, TermsOf, Live, Waiting, Leaving, Over, StageAt, Stage}
 
@@ -48,10 +48,6 @@ total-at c n e = rw (ne-eqb (c .status) 0 (λ z. omega arith))
 pub held-at : (c : Channel) (n x : ℕ) → c .status ≡ n → cond (eqb n 2) (c .customer .deposit .0) (cond (eqb n 3 || eqb n 4) (total c) (cond (eqb n 5) (c .kept .0) 0)) ≡ x → held c ≡ x
 unfolding held
 held-at c n x e h = subst (λ (i : ℕ). cond (eqb i 2) (c .customer .deposit .0) (cond (eqb i 3 || eqb i 4) (total c) (cond (eqb i 5) (c .kept .0) 0)) ≡ x) (sym e) h
-
--- A test of the range.
-in-range : (d : ℕ) → ranged d ≡ true → (shortest ≤ d) × (d ≤ longest)
-in-range d h = let p = and-both (leb shortest d) (leb d longest) h in (leb-true _ _ (p .0), leb-true _ _ (p .1))
 
 -- Check 7 is on the operand; 0 stands for the default, which is in range.
 delayed-fits : (default : ℕ) → ranged default ≡ true → (d : ℕ) → delayFits d ≡ true → (shortest ≤ delayed default d) × (delayed default d ≤ longest)

@@ -11,26 +11,26 @@ signature-tested-requires c κs =
     let c₄ = c .before .before .before .before in
     let c₇ = c₄ .before .before .before in
     let c₁₀ = c₇ .before .before .before in
-    let c₁₆ = c₁₀ .before .before .before .before .before .before in
-    omega (arith, c .tested3 .ensures .1, c₄ .tested2 .ensures .1, c₇ .tested .ensures .1, c₁₀ .unjudged .ensures .1, c₁₆ .pre .2)
+    let c₁₇ = c₁₀ .before .before .before .before .before .before .before in
+    omega (arith, c .tested3 .ensures .1, c₄ .tested2 .ensures .1, c₇ .tested .ensures .1, c₁₀ .unjudged .ensures .1, c₁₇ .pre .2)
 
 signature-tested-requires-2 : tie.Need-signature-tested-requires-2
 signature-tested-requires-2 c κs =
     let c₅ = c .before .before .before .before .before in
     let c₈ = c₅ .before .before .before in
     let c₁₁ = c₈ .before .before .before in
-    let c₁₇ = c₁₁ .before .before .before .before .before .before in
-    omega (arith, c .signature-tested .ensures .1, c .before .tested3 .ensures .1, c₅ .tested2 .ensures .1, c₈ .tested .ensures .1, c₁₁ .unjudged .ensures .1, c₁₇ .pre .2)
+    let c₁₈ = c₁₁ .before .before .before .before .before .before .before in
+    omega (arith, c .signature-tested .ensures .1, c .before .tested3 .ensures .1, c₅ .tested2 .ensures .1, c₈ .tested .ensures .1, c₁₁ .unjudged .ensures .1, c₁₈ .pre .2)
 
 digest-at-requires : tie.Need-digest-at-requires
 digest-at-requires c κs =
-    let c₁₈ = c .before .before .before .before .before .before .before .before .before .before .before .before .before .before .before .before .before .before in
-    omega (arith, c₁₈ .pre .2)
+    let c₁₉ = c .before .before .before .before .before .before .before .before .before .before .before .before .before .before .before .before .before .before .before in
+    omega (arith, c₁₉ .pre .2)
 
 deadline-from-requires : tie.Need-deadline-from-requires
 deadline-from-requires c κs =
-    let c₁₉ = c .before .before .before .before .before .before .before .before .before .before .before .before .before .before .before .before .before .before .before in
-    c₁₉ .pre .1
+    let c₂₀ = c .before .before .before .before .before .before .before .before .before .before .before .before .before .before .before .before .before .before .before .before in
+    c₂₀ .pre .1
 
 returns : tie.Need-returns
 unfolding ruling customerClose

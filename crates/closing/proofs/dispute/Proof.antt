@@ -10,8 +10,8 @@ signature-tested-requires : tie.Need-signature-tested-requires
 signature-tested-requires c κs =
     let c₄ = c .before .before .before .before in
     let c₆ = c₄ .before .before in
-    let c₁₀ = c₆ .before .before .before .before in
-    omega (arith, c .secret-tested .ensures .1, c .before .tested2 .ensures .1, c₄ .tested .ensures .1, c₆ .unjudged .ensures .1, c₁₀ .pre)
+    let c₁₁ = c₆ .before .before .before .before .before in
+    omega (arith, c .secret-tested .ensures .1, c .before .tested2 .ensures .1, c₄ .tested .ensures .1, c₆ .unjudged .ensures .1, c₁₁ .pre)
 
 returns : tie.Need-returns
 unfolding ruling dispute

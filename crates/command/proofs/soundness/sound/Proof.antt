@@ -15,22 +15,25 @@ abbrev μ-loop : tie.MeasureT-loop
 μ-loop book ok₀ i₀ ok i = 64 - i
 
 loop-holds : tie.Need-loop-holds Inv-loop μ-loop
-loop-holds c = tested-none (c .before .before .args .t1) _ (c .sound-header .ensures)
+loop-holds c = tested-none (c .before .before .before .args .t1) _ (c .sound-header .ensures)
+
+module _ (l : tie.At-loop Inv-loop μ-loop) where
+  abbrev book : Book
+  book = l .before .before .before .before .args .t1
+
+  all-64 : length (book .channels) ≡ 64
+  all-64 = search (needs, length-of-map)
 
 loop-again : tie.Need-loop-again Inv-loop μ-loop
 loop-again c =
     let t = c .before .before in
     let l = t .before in
-    let b : Book = l .before .before .before .args .t1 in
-    let h : length (b .channels) ≡ 64 = search (needs, length-of-map) in
-    tested-more b h (l .loop .ok) (l .loop .i) (l .loop .inv) _ (t .loop-test .taken) (c .sound-channel .ensures)
+    tested-more (book l) (all-64 l) (l .loop .ok) (l .loop .i) (l .loop .inv) _ (t .loop-test .taken) (c .sound-channel .ensures)
 
 returns : tie.Need-returns Inv-loop μ-loop
 returns c =
     let l = c .before in
-    let b : Book = l .before .before .before .args .t1 in
-    let h : length (b .channels) ≡ 64 = search (needs, length-of-map) in
-    tested-all b h (l .loop .ok) (l .loop .i) (l .loop .inv) (c .loop-test .left)
+    tested-all (book l) (all-64 l) (l .loop .ok) (l .loop .i) (l .loop .inv) (c .loop-test .left)
 
 pub sound-spec : {M : Type 1} → statement M
 sound-spec =

@@ -8,7 +8,7 @@ use Rattle.machine.specs.Format.{opcode, size}
 use Rattle.machine.specs.Checks.{clean, judge}
 use Rattle.machine.specs.Machine.{shared}
 use Rattle.machine.specs.declared.state.Book.{Book}
-use Rattle.command.proofs.SoundBook.{sound-at, sound-clock, length-of-map, Tested, tested-none, tested-more, tested-all}
+use Rattle.command.proofs.SoundBook.{sound-at, sound-context, length-of-map, Tested, tested-none, tested-more, tested-all}
 use Rattle.command.proofs.Stepping.{Shared, shared-by, shared-ok, least, step-stops, step-clock, step-far, step-channel}
 use borrow.Author.Needs.{needs}
 use Rattle.command.proofs.steps.step.Statement.{statement}
@@ -21,14 +21,14 @@ abbrev μ-loop : tie.MeasureT-loop
 μ-loop command book steady₀ i₀ steady i = 64 - i
 
 loop-holds : tie.Need-loop-holds Inv-loop μ-loop
-loop-holds c = tested-none (c .before .before .before .args .t1) _ (c .sound-header .ensures)
+loop-holds c = tested-none (c .before .before .before .before .args .t1) _ (c .sound-header .ensures)
 
 module _ (l : tie.At-loop Inv-loop μ-loop) where
   abbrev book : Book
-  book = l .before .before .before .before .args .t1
+  book = l .before .before .before .before .before .args .t1
 
   abbrev command : List ℕ
-  command = l .before .before .before .before .args .command .now
+  command = l .before .before .before .before .before .args .command .now
 
   all-64 : length (book .channels) ≡ 64
   all-64 = search (needs, length-of-map)
@@ -75,10 +75,11 @@ second op h n = omega arith
 
 rule-requires : tie.Need-rule-requires Inv-loop μ-loop
 rule-requires c κs =
-    let e = c .before .before .before .before .before in
+    let e = c .before .before .before .before .before .before in
     let h = agreed (e .before) in
     let op = op-is (e .before .before .before .before) in
-    (rw op (second _ (h .low) (λ z. e .if2 .left (op ∙ z))), rw op (h .high), rw op (h .sized), sound-at _ _ (h .steady), sound-clock _ (h .steady))
+    let k = sound-context _ (h .steady) in
+    (rw op (second _ (h .low) (λ z. e .if2 .left (op ∙ z))), rw op (h .high), rw op (h .sized), sound-at _ _ (h .steady), k .0, k .1)
 
 -- A 01.
 returns : tie.Need-returns Inv-loop μ-loop
@@ -93,7 +94,7 @@ returns c =
 returns-2 : tie.Need-returns-2 Inv-loop μ-loop
 returns-2 c =
     let d = c .before .before in
-    let t = d .before .before .before .before in
+    let t = d .before .before .before .before .before in
     let n = t .before in
     let e = n .before in
     let y = e .before in
