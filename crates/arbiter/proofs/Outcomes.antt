@@ -1,4 +1,4 @@
--- What the forms by value return: a struct of a book and an answer, or a result alone.
+-- The book as a struct that is lent, and what the forms by value return: a struct of a book and an answer, or a result alone.
 use mathlib.Core.Path.{ap}
 use mathlib.Core.List.{[], _∷_}
 use mir.Syntax.{w32, tyInt}
@@ -8,6 +8,8 @@ use denote.Builtin.{u32}
 use denote.Steps.{only}
 use denote.Struct.Laws as LL
 use denote.Enum.Laws as EL
+use Rattle.machine.proofs.state.Book as B
+use Rattle.machine.proofs.state.Book.Laws as B′
 use Rattle.machine.proofs.answers.Answer as N
 use Rattle.machine.proofs.answers.Answer.Laws as N′
 use Rattle.machine.proofs.answers.Stepped as T
@@ -18,33 +20,37 @@ use Rattle.machine.proofs.answers.Reading as R
 use Rattle.machine.proofs.answers.Reading.Laws as R′
 use Rattle.machine.proofs.answers.Found as F
 use Rattle.machine.proofs.answers.Found.Laws as F′
+use Rattle.lending.proofs.Lent.{Lent}
 use Rattle.lending.proofs.Lending.{Outcome}
 use Rattle.lending.proofs.Looking.{Returned}
 
-abbrev pub stepped : Outcome T.the-row N.the-row
+abbrev pub book : Lent
+book = record { type = B.the-type; laws = B′.the-laws; plainly = B′.the-plain; copies = B′.the-copy }
+
+abbrev pub stepped : Outcome book T.the-row N.the-row
 stepped = record {
-  book = λ r. r .book;
+  held = λ r. r .book;
   answer = λ r. r .answer;
   name = T.struct .name;
   ty = N′.mir;
   val = LL.val N.the-type N′.the-laws;
   spells = λ r w is. ap only (LL.tells T.the-type T′.the-laws r (w ∷ []) is);
-  book-is = λ r w is. LL.owed T.the-type T′.the-laws r _ is .0;
+  held-is = λ r w is. LL.owed T.the-type T′.the-laws r _ is .0;
   answer-is = λ r w is. LL.owed T.the-type T′.the-laws r _ is .1 .0;
   typed = λ 𝓤 H A W r w is. LL.lawful T.the-type T′.the-laws 𝓤 H A W .typed r _ is .0;
   answer-typed = λ 𝓤 H A W x w is. LL.lawful N.the-type N′.the-laws 𝓤 H A W .typed x _ is .0;
   makes = λ 𝓤 H A W. LL.makes N.the-type N′.the-plain 𝓤 H A;
 }
 
-abbrev pub opened : Outcome O.the-row u32
+abbrev pub opened : Outcome book O.the-row u32
 opened = record {
-  book = λ r. r .book;
+  held = λ r. r .book;
   answer = λ r. r .refusal;
   name = O.struct .name;
   ty = tyInt w32;
   val = vint w32;
   spells = λ r w is. ap only (LL.tells O.the-type O′.the-laws r (w ∷ []) is);
-  book-is = λ r w is. LL.owed O.the-type O′.the-laws r _ is .0;
+  held-is = λ r w is. LL.owed O.the-type O′.the-laws r _ is .0;
   answer-is = λ r w is. LL.owed O.the-type O′.the-laws r _ is .1 .0;
   typed = λ 𝓤 H A W r w is. LL.lawful O.the-type O′.the-laws 𝓤 H A W .typed r _ is .0;
   answer-typed = λ 𝓤 H A W x w is. uint-lawful 𝓤 H A W w32 .typed x _ is .0;

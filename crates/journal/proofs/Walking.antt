@@ -1,4 +1,4 @@
--- What the walks share: numbers, lines and the commands, as the machine has them. Assumes nothing.
+-- What the walks share: numbers, lines and a part of the commands, as the machine has them. Assumes nothing.
 use mathlib.Core.Path.{refl, ap, subst, _∙_}
 use Prim.Native.Nat.{ℕ, _+_, _-_, _≤_}
 use mathlib.Core.List.{[], _∷_, List}
@@ -12,14 +12,14 @@ use base.Logic.{ent, sep, ex}
 use base.Fml.{GName, Lft, Share, Fml, flft}
 use prog.Wp.{Heap}
 use ghost.Atoms.{Atoms, sem}
-use types.Kit.{Goal, Step, Given, Item, ‵, _⊛_, some, later, _$_, _∵_, !, qed, cut, use2, pick, split, fsplit, fjoin, await, updating, now as at-once, show, done}
+use types.Kit.{Goal, Step, Given, Item, ‵, _⊛_, some, later, _$_, _∵_, !, qed, use2, pick, split, fsplit, fjoin, await, updating, now as at-once, show, done}
 use denote.Laws.{Is}
 use denote.Plain.{uint-makes}
 use denote.Builtin.{u8, usize}
 use denote.Ref.{RefT}
 use denote.Memory.{mem}
 use denote.Shadow.{pureL, pureI}
-use denote.Slice.{sliceVal, ShrSlice, shr-slice-copy, room, at-slice}
+use denote.Slice.{room, at-slice}
 use denote.Steps.{owned}
 use denote.Struct.Laws as LL
 use borrow.Table.Referent.{fInt}
@@ -27,6 +27,7 @@ use borrow.Table.Copies.{cRf, halved}
 use borrow.Table.Elements.{at, at-byte}
 use borrow.Table.Owned as owned
 use borrow.Rule.Slice.Prefix.{shs-part-same}
+use Rattle.lending.proofs.Lent.{slice-val, OwnSlice}
 use Rattle.journal.specs.declared.lines.Line.{Line}
 use Rattle.journal.proofs.lines.Line as T
 use Rattle.journal.proofs.lines.Line.Laws as T′
@@ -44,13 +45,6 @@ IsLine l = Is T.the-row l (line-val l ∷ [])
 pub line-typed : {M : Type 1} (𝓤 : URA M) (H : Heap 𝓤) (A : Atoms 𝓤) → Given 𝓤 H A → (l : Line) → IsLine l → Holds (hasTy T′.mir (line-val l)) × WT (line-val l)
 line-typed 𝓤 H A W l is = LL.lawful T.the-type T′.the-laws 𝓤 H A W .typed l _ is .0
 
--- The machine value of the commands, and what they own.
-abbrev pub slice-val : RefT (List ℕ) → Val
-slice-val s = sliceVal (s .ptr) (length (s .now))
-
-abbrev pub OwnSlice : Lifetime → Lft → RefT (List ℕ) → Fml
-OwnSlice ℓ κ s = ShrSlice ℓ κ u8 .own s (slice-val s ∷ [])
-
 module _ {M : Type 1} {𝓤 : URA M} {H : Heap 𝓤} {A : Atoms 𝓤} {K : Type 0} {W : Given 𝓤 H A} {Γ : List (Item 𝓤)} {G : Goal 𝓤 H} where
   -- What a number or a line owns is had for nothing.
   pub owns-usize : K → (n : ℕ) → IsUsize n → Step K W (‵ (usize .own n (vint w64 n ∷ [])) ∷ Γ) G Γ G
@@ -58,10 +52,6 @@ module _ {M : Type 1} {𝓤 : URA M} {H : Heap 𝓤} {A : Atoms 𝓤} {K : Type 
 
   pub owns-line : K → (l : Line) → IsLine l → Step K W (‵ (T.the-row .own l (line-val l ∷ [])) ∷ Γ) G Γ G
   owns-line t l is = owned t T.the-row (Is T.the-row) (LL.makes T.the-type T′.the-plain 𝓤 H A) l (line-val l ∷ []) is
-
-  -- What the commands own is had twice.
-  pub slice-twice : K → (ℓ : Lifetime) (κ : Lft) (s : RefT (List ℕ)) → Step K W (‵ (OwnSlice ℓ κ s) ∷ ‵ (OwnSlice ℓ κ s) ∷ Γ) G (‵ (OwnSlice ℓ κ s) ∷ Γ) G
-  slice-twice t ℓ κ s = cut (‵ (OwnSlice ℓ κ s) ∷ []) (‵ (OwnSlice ℓ κ s) ∷ ‵ (OwnSlice ℓ κ s) ∷ []) Γ (shr-slice-copy 𝓤 H A W ℓ κ u8 .twice s (slice-val s ∷ []))
 
 -- A part of the commands, `&s[a..e]`, under the name γ.
 abbrev pub part : RefT (List ℕ) → ℕ → ℕ → GName → RefT (List ℕ)

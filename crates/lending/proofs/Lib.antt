@@ -1,3 +1,5 @@
--- The walks of functions over a lent book.
+-- The walks of functions over a lent struct.
+pub mod Lent
 pub mod Lending
+pub mod LendingWith
 pub mod Looking

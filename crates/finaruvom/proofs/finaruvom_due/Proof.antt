@@ -3,6 +3,7 @@ use mathlib.Core.Path.{_≡_}
 use denote.Struct.Laws as LL
 use Rattle.machine.specs.Due.{due}
 use Rattle.lending.proofs.Looking.{Returned, looking-meets}
+use Rattle.arbiter.proofs.Outcomes.{book}
 use Rattle.finaruvom.specs.Fields.{fieldsOf}
 use Rattle.finaruvom.proofs.NextDue as N
 use Rattle.finaruvom.proofs.NextDue.Laws as N′
@@ -19,4 +20,4 @@ next = record { ty = N′.mir; typed = λ 𝓤 H A W r w is. LL.lawful N.the-typ
 pub finaruvom-due-spec : {M : Type 1} → statement M
 unfolding code.routine
 finaruvom-due-spec 𝓤 H 𝓜 𝓖 𝓡 =
-    looking-meets next (λ h r. r ≡ fieldsOf (due h)) next-due-def.name 𝓤 H 𝓜 𝓖 𝓡 code.env key.name (code.unfolded 𝓤 H 𝓜 𝓡) next-due-def.routine code.calls-finaruvom·next-due (next-due-thm.met 𝓤 H 𝓜 𝓖 𝓡)
+    looking-meets book next (λ h r. r ≡ fieldsOf (due h)) next-due-def.name 𝓤 H 𝓜 𝓖 𝓡 code.env key.name (code.unfolded 𝓤 H 𝓜 𝓡) next-due-def.routine code.calls-finaruvom·next-due (next-due-thm.met 𝓤 H 𝓜 𝓖 𝓡)

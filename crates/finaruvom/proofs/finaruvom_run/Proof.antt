@@ -34,7 +34,7 @@ use denote.Triple.Statement.{Contract, Triple}
 use denote.Triple.Call.{calls-at}
 use Rattle.machine.specs.declared.state.Book.{Book}
 use Rattle.machine.proofs.state.Book as B
-use Rattle.lending.proofs.Lending.{gave, hands-back, by-call}
+use Rattle.lending.proofs.Lent.{gave, hands-back, by-call}
 use Rattle.journal.specs.declared.lines.Line.{Line}
 use Rattle.journal.proofs.lines.Line as T
 use Rattle.journal.proofs.runs.Ran as N

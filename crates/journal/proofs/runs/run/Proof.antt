@@ -48,13 +48,14 @@ use denote.Triple.Walked.{says, Stays, stay-ref, stay-slice, stay-none-slice, wa
 use denote.Exit.{yes}
 use Rattle.machine.specs.declared.state.Book.{Book}
 use Rattle.machine.proofs.state.Book as B
+use Rattle.lending.proofs.Lent.{slice-val, OwnSlice, slice-twice}
 use Rattle.journal.specs.Runs.{runOf}
 use Rattle.journal.specs.declared.lines.Line.{Line}
 use Rattle.journal.specs.declared.next.Ahead.{Ahead}
 use Rattle.journal.specs.declared.runs.Ran.{Ran}
 use Rattle.journal.proofs.Again as Again
 use Rattle.journal.proofs.Running.{State, start, AheadIs, TurnedIs, has-room, after-turn, run-ends}
-use Rattle.journal.proofs.Walking.{owns-usize, line-val, IsLine, owns-line, slice-val, OwnSlice, slice-twice}
+use Rattle.journal.proofs.Walking.{owns-usize, line-val, IsLine, owns-line}
 use Rattle.journal.proofs.lines.Line as T
 use Rattle.journal.proofs.lines.Line.Laws as T′
 use Rattle.journal.proofs.next.Ahead as X

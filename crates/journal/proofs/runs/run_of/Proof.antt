@@ -49,12 +49,12 @@ use denote.Exit.{yes}
 use Rattle.machine.specs.declared.state.Book.{Book}
 use Rattle.machine.proofs.state.Book as B
 use Rattle.machine.proofs.state.Book.Laws as B′
-use Rattle.lending.proofs.Lending.{bv, IsBook, book-typed, owns-book, spells-book, by-walk}
+use Rattle.lending.proofs.Lent.{held-val, IsHeld, held-typed, owns-held, spells-held, slice-val, OwnSlice, slice-twice, by-walk}
+use Rattle.arbiter.proofs.Outcomes.{book}
 use Rattle.journal.specs.Runs.{Done, runOf, ranOf}
 use Rattle.journal.specs.declared.lines.Line.{Line}
 use Rattle.journal.specs.declared.runs.Ran.{Ran}
 use Rattle.journal.specs.declared.runs.Whole.{Whole}
-use Rattle.journal.proofs.Walking.{slice-val, OwnSlice, slice-twice}
 use Rattle.journal.proofs.lines.Line as T
 use Rattle.journal.proofs.lines.Line.Laws as T′
 use Rattle.journal.proofs.runs.Ran as N
@@ -69,16 +69,23 @@ use Rattle.journal.proofs.runs.run_of as f
 use Rattle.journal.proofs.runs.run_of.Statement.{statement}
 use Rattle.journal.proofs.runs.run_of.Code as code
 
+-- A book's machine value, which stands for the book.
+abbrev bv : Book → Val
+bv = held-val book
+
+abbrev IsBook : Book → Type 0
+IsBook = IsHeld book
+
 -- A local that holds a book is a book in memory, which can be lent; and back.
 module _ {M : Type 1} (𝓤 : URA M) (H : Heap 𝓤) (A : Atoms 𝓤) (W : Given 𝓤 H A) (l : ℕ) (h : Book) where
   book-in : IsBook h → ent 𝓤 (sem 𝓤 H A (fat fullShare B′.mir l 0 (bv h))) (sem 𝓤 H A (mem B.the-row .lies h l 0))
   unfolding partOf
   book-in is = qed W (‵ (fat fullShare B′.mir l 0 (bv h)) ∷ []) ∵ use1 W (‵ (cellAt fullShare (B.the-row .mir) (bv h ∷ []) l 0)) (W .laws .at-raw fullShare B′.mir l 0 (bv h)) $
-      owns-book ! h is $ move ! (1 ∷ 0 ∷ []) $ fjoin ! $ fpack ! (List Val) (λ us. fsep (cellAt fullShare (B.the-row .mir) us l 0) (B.the-row .own h us)) (bv h ∷ []) $ done !
+      owns-held book ! h is $ move ! (1 ∷ 0 ∷ []) $ fjoin ! $ fpack ! (List Val) (λ us. fsep (cellAt fullShare (B.the-row .mir) us l 0) (B.the-row .own h us)) (bv h ∷ []) $ done !
 
   book-out : ent 𝓤 (sem 𝓤 H A (mem B.the-row .lies h l 0)) (guard 𝓤 (IsBook h) (sem 𝓤 H A (fat fullShare B′.mir l 0 (bv h))))
   unfolding partOf
-  book-out = qed W (‵ (mem B.the-row .lies h l 0) ∷ []) ∵ fpick ! (λ vs. fsplit ! $ spells-book ! fullShare h vs l 0 (λ is. check ! is $ use1 W (‵ (fat fullShare B′.mir l 0 (bv h))) (W .laws .raw-at fullShare B′.mir l 0 (bv h)) $ keep ! (0 ∷ []) $ done !))
+  book-out = qed W (‵ (mem B.the-row .lies h l 0) ∷ []) ∵ fpick ! (λ vs. fsplit ! $ spells-held book ! fullShare h vs l 0 (λ is. check ! is $ use1 W (‵ (fat fullShare B′.mir l 0 (bv h))) (W .laws .raw-at fullShare B′.mir l 0 (bv h)) $ keep ! (0 ∷ []) $ done !))
 
 -- The array of lines, and its machine value as a struct that holds it has it.
 abbrev Row : RattleType
@@ -200,15 +207,15 @@ module _ {M : Type 1} (𝓤 : URA M) (H : Heap 𝓤) (A : Atoms 𝓤) (W : Given
         qed W (‵ (flft κ q) ∷ ‵ Own ∷ []) ∵
         suffices ! _ (ends-at 𝓤 H A f.ended stayed (f.clauses 𝓤 H A at-mem run) W (((κ, tt), (q, tt), tt, x, at), tt) (LL.val S.the-type S′.the-laws (made r h′ zs)) (made r h′ zs) (tt, (tt, (tt, tt))) (tt, (tt, (tt, tt)))) $
         says ! e $ nothing ! $ move ! (1 ∷ 0 ∷ []) $ join ! $ frame ! $ nothing ! $ use0 W (‵ (Row .own xs (av xs ∷ []))) (makes-row 𝓤 H A W xs isl) $ fjoin ! $ move ! (1 ∷ 0 ∷ []) $ fjoin ! $
-        owns-book ! h is $ fjoin ! $ owned ! S.the-row (Is S.the-row) (LL.makes S.the-type S′.the-plain 𝓤 H A) (made r h′ zs) _ g $ move ! (1 ∷ 0 ∷ []) $ done !
+        owns-held book ! h is $ fjoin ! $ owned ! S.the-row (Is S.the-row) (LL.makes S.the-type S′.the-plain 𝓤 H A) (made r h′ zs) _ g $ move ! (1 ∷ 0 ∷ []) $ done !
 
     module _ (C : Calls 𝓤 H) (Λ : Loops 𝓤 H) (fm : FmC 𝓤 H (W .laws) C) (known : Triple 𝓤 (C run-def.name) RunC) where
       walk : Is (ShrSlice (named 0) κ u8) s (sv ∷ []) → ent 𝓤 (onEntry 𝓤 H A f.signature (κ, tt) (q, tt) x at) (WpFn 𝓤 H C Λ code.function (bv h ∷ sv ∷ av xs ∷ []) Post)
       walk p =
           qed W ((‵ (flft κ q) ⊛ ‵ ftrue) ∷ ‵ (owns (B.the-row ∷ ShrSlice (named 0) κ u8 ∷ Row ∷ []) x at) ∷ []) ∵ enter ! C Λ code.function (bv h ∷ sv ∷ av xs ∷ []) _ $
           alloc1 ! (λ l₀. alloc1 ! (λ l₁. alloc1 ! (λ l₂. alloc1 ! (λ l₃. alloc1 ! (λ l₄. alloc1 ! (λ l₅. alloc1 ! (λ l₆. alloc1 ! (λ l₇. alloc1 ! (λ l₈. alloc1 ! (λ l₉. alloc1 ! (λ l₁₀. alloc1 ! (λ l₁₁. alloc0 ! $ params1 ! $
-          pass1 ! (init ! 20 refl (book-typed 𝓤 H A W h is)) $ pass1 ! (init ! 18 refl (shr-slice-lawful 𝓤 H A W (named 0) κ u8 .typed s (sv ∷ []) p .0)) $ pass1 ! (init ! 16 refl (row-typed 𝓤 H A W xs isl)) $ pass0 ! $
-          assigns ! (of-opd ! (load ! (from ! (stop !)) (look ! 20 refl))) (from ! (stop !)) (init ! 14 refl (book-typed 𝓤 H A W h is)) $
+          pass1 ! (init ! 20 refl (held-typed book 𝓤 H A W h is)) $ pass1 ! (init ! 18 refl (shr-slice-lawful 𝓤 H A W (named 0) κ u8 .typed s (sv ∷ []) p .0)) $ pass1 ! (init ! 16 refl (row-typed 𝓤 H A W xs isl)) $ pass0 ! $
+          assigns ! (of-opd ! (load ! (from ! (stop !)) (look ! 20 refl))) (from ! (stop !)) (init ! 14 refl (held-typed book 𝓤 H A W h is)) $
           assigns ! (of-opd ! (load ! (from ! (stop !)) (look ! 16 refl))) (from ! (stop !)) (init ! 12 refl (row-typed 𝓤 H A W xs isl)) $
           assigns ! (addr ! (from ! (stop !))) (from ! (stop !)) (init ! 8 refl (tt, tt)) $ assigns ! (addr ! (from ! (stop !))) (from ! (stop !)) (init ! 6 refl (tt, tt)) $
           assigns ! (agg ! (and-then ! (load ! (from ! (stop !)) (look ! 6 refl)) (and-then ! (lit ! tt) (no-more !)))) (from ! (stop !)) (init ! 4 refl (tt, (tt, (record { fits = lit< tt }, tt)))) $
@@ -235,7 +242,7 @@ module _ {M : Type 1} (𝓤 : URA M) (H : Heap 𝓤) (A : Atoms 𝓤) (W : Given
           move ! (1 ∷ []) $ split ! $ move ! (1 ∷ []) $ split ! $ lft-end ! tt $ move ! (0 ∷ 6 ∷ 4 ∷ []) $ use3 W (later (‵ (Arr (mem T.the-row) (length xs) .lies (hs .1 .1 .0) l₅ 0))) (slice-back 𝓤 H A W T.the-row (μ ∷ []) ε (hs .1 .1 .0) (length xs) l₅ 0) $ await ! tt $
           use1 W (given (IsRow (hs .1 .1 .0)) (‵ (fat fullShare τ l₅ 0 (av (hs .1 .1 .0))))) (row-out 𝓤 H A W (hs .1 .1 .0) l₅ (length xs) len) $ learn ! (λ isz. move ! (1 ∷ []) $ drop ! $
           -- [_5; the token; _4; the slice; _11 4; …; _10 6; …; _9 8; …; _8 10; …; _7 12; …; _6 14; …; dies _5 16; dies _4 17; _3 18; …; _2 20; …; _1 22; …; _0 24; …]
-          assigns ! (of-opd ! (load ! (from ! (stop !)) (look ! 2 refl))) (from ! (stop !)) (init ! 6 refl (book-typed 𝓤 H A W (hs .0) is′)) $
+          assigns ! (of-opd ! (load ! (from ! (stop !)) (look ! 2 refl))) (from ! (stop !)) (init ! 6 refl (held-typed book 𝓤 H A W (hs .0) is′)) $
           assigns ! (of-opd ! (load ! (from ! (stop !)) (look ! 0 refl))) (from ! (stop !)) (init ! 4 refl (row-typed 𝓤 H A W (hs .1 .1 .0) isz)) $
           assigns ! (agg ! (and-then ! (load ! (from ! (stop !)) (look ! 6 refl)) (and-then ! (load ! (from ! (stop !)) (look ! 4 refl)) (and-then ! (load ! (from ! (stop !)) (look ! 14 refl)) (no-more !))))) (from ! (stop !)) (init ! 24 refl (LL.lawful S.the-type S′.the-laws 𝓤 H A W .typed (made r (hs .0) (hs .1 .1 .0)) _ (whole-is r (hs .0) (hs .1 .1 .0) w g is′ isz) .0)) $
           returns ! (look ! 24 refl) $ forget ! 0 refl $ forget ! 2 refl $ forget ! 4 refl $ forget ! 6 refl $ forget ! 8 refl $ forget ! 10 refl $ forget ! 12 refl $ forget ! 14 refl $ forget ! 18 refl $ forget ! 20 refl $ forget ! 22 refl $ forget ! 24 refl $

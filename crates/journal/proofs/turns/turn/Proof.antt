@@ -47,13 +47,13 @@ use Rattle.machine.specs.declared.answers.Answer.{Answer}
 use Rattle.machine.proofs.state.Book as B
 use Rattle.machine.proofs.answers.Answer as N
 use Rattle.machine.proofs.answers.Answer.Laws as N′
-use Rattle.lending.proofs.Lending.{gave, by-walk}
+use Rattle.lending.proofs.Lent.{slice-val, OwnSlice, gave, by-walk}
 use Rattle.arbiter.proofs.apply as applies
 use Rattle.arbiter.proofs.apply.Symbol as apply-def
 use Rattle.arbiter.proofs.apply.Met as apply-thm
 use Rattle.journal.specs.Runs.{turnedOf}
 use Rattle.journal.specs.declared.lines.Line.{Line}
-use Rattle.journal.proofs.Walking.{IsUsize, line-val, IsLine, line-typed, owns-line, slice-val, OwnSlice, part, slice-part}
+use Rattle.journal.proofs.Walking.{IsUsize, line-val, IsLine, line-typed, owns-line, part, slice-part}
 use Rattle.journal.proofs.lines.Line as T
 use Rattle.journal.proofs.lines.Line.Laws as T′
 use Rattle.journal.proofs.turns.turn.Key as key
