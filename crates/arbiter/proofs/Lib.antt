@@ -1,2 +1,3 @@
--- What the forms by value return.
+-- What the calls on a lent book have in common, and what an opening's checks tell.
 pub mod Outcomes
+pub mod Openings

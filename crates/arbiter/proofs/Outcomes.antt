@@ -1,4 +1,5 @@
--- The book as a struct that is lent, and what the forms by value return: a struct of a book and an answer, or a result alone.
+-- The book as a struct that is lent, settings as a value that is passed on, and what the forms by value return: a struct of a book and an
+-- answer, or a result alone.
 use mathlib.Core.Path.{ap}
 use mathlib.Core.List.{[], _∷_}
 use mir.Syntax.{w32, tyInt}
@@ -10,6 +11,8 @@ use denote.Struct.Laws as LL
 use denote.Enum.Laws as EL
 use Rattle.machine.proofs.state.Book as B
 use Rattle.machine.proofs.state.Book.Laws as B′
+use Rattle.machine.proofs.state.Settings as S
+use Rattle.machine.proofs.state.Settings.Laws as S′
 use Rattle.machine.proofs.answers.Answer as N
 use Rattle.machine.proofs.answers.Answer.Laws as N′
 use Rattle.machine.proofs.answers.Stepped as T
@@ -20,12 +23,15 @@ use Rattle.machine.proofs.answers.Reading as R
 use Rattle.machine.proofs.answers.Reading.Laws as R′
 use Rattle.machine.proofs.answers.Found as F
 use Rattle.machine.proofs.answers.Found.Laws as F′
-use Rattle.lending.proofs.Lent.{Lent}
+use Rattle.lending.proofs.Lent.{Lent, Passed, passed-struct}
 use Rattle.lending.proofs.Lending.{Outcome}
 use Rattle.lending.proofs.Looking.{Returned}
 
 abbrev pub book : Lent
 book = record { type = B.the-type; laws = B′.the-laws; plainly = B′.the-plain; copies = B′.the-copy }
+
+abbrev pub settings : Passed S.the-row
+settings = passed-struct (record { type = S.the-type; laws = S′.the-laws; plainly = S′.the-plain; copies = S′.the-copy })
 
 abbrev pub stepped : Outcome book T.the-row N.the-row
 stepped = record {

@@ -1,24 +1,38 @@
 // The calls on a lent book: thin entries over the forms by value.
 use crate::next::due_of;
 use crate::opening::opened;
+use crate::opening::opened_with;
 use crate::readings::read_of;
 use command::step;
 use machine::Answer;
 use machine::Book;
 use machine::Found;
 use machine::Reading;
+use machine::Settings;
 ghost use mathlib.Core.Path.{_≡_};
-ghost use Rattle.machine.specs.Book.{opening, reading};
+ghost use Rattle.machine.specs.Book.{reading};
+ghost use Rattle.machine.specs.Opening.{under, plainly, opening};
 ghost use Rattle.machine.specs.Due.{valueOf, due};
 ghost use Rattle.machine.specs.Real.{realStep};
 
-// Makes any lent book fresh, with the id, and answers 0; an id that is not 16 bytes long gives 2 and keeps every value.
+// The plain opening: makes any lent book fresh, with the id, and answers 0; an id that is not 16 bytes long gives 2 and keeps every value.
 pub fn open(book: &mut Book, id: &[u8]) -> u32
-    ensures { λ r. ⌜ (r ≡ opening (now (book .entry)) (now (id .entry)) .refusal)
-        × (now (book .exit) ≡ opening (now (book .entry)) (now (id .entry)) .book) ⌝ }
+    ensures { λ r. ⌜ (r ≡ opening (now (book .entry)) (plainly (now (id .entry))) .refusal)
+        × (now (book .exit) ≡ opening (now (book .entry)) (plainly (now (id .entry))) .book) ⌝ }
 {
     let lent = *book;
     let done = opened(lent, id);
+    *book = done.book;
+    done.refusal
+}
+
+// The opening with settings: 2 for the id, then 14 where the default delay is out of its range; refused, it keeps every value.
+pub fn open_with(book: &mut Book, id: &[u8], settings: Settings) -> u32
+    ensures { λ r. ⌜ (r ≡ opening (now (book .entry)) (under settings (now (id .entry))) .refusal)
+        × (now (book .exit) ≡ opening (now (book .entry)) (under settings (now (id .entry))) .book) ⌝ }
+{
+    let lent = *book;
+    let done = opened_with(lent, id, settings);
     *book = done.book;
     done.refusal
 }

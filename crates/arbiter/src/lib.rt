@@ -1,4 +1,4 @@
-// The channel arbiter: a book of 64 payment channels. A book is lent to `open`, `apply`, `read` and `due`, each of which has a form by value beside it.
+// The channel arbiter: a book of 64 payment channels. A book is lent to `open`, `open_with`, `apply`, `read` and `due`, each of which has a form by value beside it.
 mod lent;
 mod next;
 mod opening;
@@ -10,6 +10,7 @@ pub use command::step;
 pub use lent::apply;
 pub use lent::due;
 pub use lent::open;
+pub use lent::open_with;
 pub use lent::read;
 pub use machine::Answer;
 pub use machine::Book;
@@ -20,8 +21,13 @@ pub use machine::Opened;
 pub use machine::Party;
 pub use machine::Reading;
 pub use machine::Seconds;
+pub use machine::Settings;
+pub use machine::Setup;
 pub use machine::Stepped;
 pub use next::due_of;
 pub use opening::blank;
+pub use opening::desk_settings;
 pub use opening::opened;
+pub use opening::opened_with;
+pub use opening::plain_settings;
 pub use readings::read_of;

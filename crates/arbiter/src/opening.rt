@@ -1,4 +1,7 @@
-// A book to lend, and the opening that makes it fresh.
+// A book to lend, and the openings that make it fresh: the plain one, and one that is given settings.
+use checks::tested;
+use checks::unjudged;
+use holdings::delay_fits;
 use machine::Book;
 use machine::Cents;
 use machine::Channel;
@@ -6,9 +9,11 @@ use machine::MARK;
 use machine::Opened;
 use machine::Party;
 use machine::Seconds;
+use machine::Settings;
+use machine::Setup;
 use wire::id_at;
 ghost use mathlib.Core.Path.{_≡_};
-ghost use Rattle.machine.specs.Book.{unused, blankBook, fresh, opening};
+ghost use Rattle.machine.specs.Opening.{under, plainly, plainSettings, deskSettings, unused, fresh, opening, blankBook};
 
 // Status 0, and zeros.
 fn unused_channel() -> Channel
@@ -42,34 +47,62 @@ pub fn blank() -> Book
     Book {
         mark: 0,
         id: [0u8; 16],
+        setup: Setup { delay: 0 },
         clock: Seconds(0),
         channels,
     }
 }
 
-fn fresh_book(id: [u8; 16]) -> Book
-    ensures { λ r. ⌜ r ≡ fresh id ⌝ }
+// What the plain opening is given: a delay of 0 stands for a day.
+pub fn plain_settings() -> Settings
+    ensures { λ r. ⌜ r ≡ plainSettings ⌝ }
+{
+    Settings { delay: 86400 }
+}
+
+// What the desk gives new books: a delay of 0 stands for two days.
+pub fn desk_settings() -> Settings
+    ensures { λ r. ⌜ r ≡ deskSettings ⌝ }
+{
+    Settings { delay: 172800 }
+}
+
+fn fresh_book(id: [u8; 16], settings: Settings) -> Book
+    ensures { λ r. ⌜ r ≡ fresh (under settings id) ⌝ }
 {
     let channel = unused_channel();
     let channels = [channel; 64];
+    let setup = Setup {
+        delay: settings.delay as u64,
+    };
     Book {
         mark: MARK,
         id,
+        setup,
         clock: Seconds(0),
         channels,
     }
 }
 
-// A fresh book with the id, or the lent one and 2 where the id is not 16 bytes long.
-pub fn opened(lent: Book, id: &[u8]) -> Opened
-    ensures { λ r. ⌜ r ≡ opening lent (now (id .entry)) ⌝ }
+// A fresh book with the id and the settings, or the lent one and the number of the first check that says no.
+pub fn opened_with(lent: Book, id: &[u8], settings: Settings) -> Opened
+    ensures { λ r. ⌜ r ≡ opening lent (under settings (now (id .entry))) ⌝ }
 {
-    if id.len() != 16 {
+    let j = tested(unjudged(), 2, id.len() == 16);
+    let j = tested(j, 14, delay_fits(settings.delay as u64));
+    if j.refusal != 0 {
         return Opened {
             book: lent,
-            refusal: 2,
+            refusal: j.refusal,
         };
     }
-    let book = fresh_book(id_at(id, 0));
+    let book = fresh_book(id_at(id, 0), settings);
     Opened { book, refusal: 0 }
+}
+
+// The plain opening.
+pub fn opened(lent: Book, id: &[u8]) -> Opened
+    ensures { λ r. ⌜ r ≡ opening lent (plainly (now (id .entry))) ⌝ }
+{
+    opened_with(lent, id, plain_settings())
 }

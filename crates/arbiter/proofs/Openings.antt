@@ -1,0 +1,22 @@
+-- An opening whose checks have been made.
+use mathlib.Core.Path.{_≡_, refl, sym, ap, _∙_}
+use lib.ListN.{length}
+use borrow.Author.Tests.{ne-eqb, eqb-true}
+use Rattle.machine.specs.Checks.{clean, judge}
+use Rattle.machine.specs.Opening.{Opening, openingChecks, fresh, opening}
+use Rattle.machine.specs.declared.state.Book.{Book}
+use Rattle.machine.specs.declared.answers.Judged.{Judged}
+use Rattle.machine.proofs.Judging.{judge-passed}
+
+module _ (o : Opening) (j : Judged) (e : j ≡ judge clean (openingChecks o)) where
+  pub opening-no : (lent : Book) → (j .refusal ≡ 0 → ⊥) → record { book = lent; refusal = j .refusal } ≡ opening lent o
+  unfolding opening
+  opening-no lent h = rw (← e, ne-eqb _ _ h)
+
+  pub opening-yes : (lent : Book) → j .refusal ≡ 0 → record { book = fresh o; refusal = 0 } ≡ opening lent o
+  unfolding opening
+  opening-yes lent h = rw (← e, h)
+
+  -- The id is 16 bytes long where they said yes.
+  pub whole-id : j .refusal ≡ 0 → length (o .id) ≡ 16
+  whole-id h = eqb-true _ _ ((judge-passed (openingChecks o) clean refl (ap (λ (i : Judged). i .refusal) (sym e) ∙ h)) .1 .0)

@@ -1,0 +1,53 @@
+use Prim.Native.Nat.{ℕ}
+use native.Mathlib.Omega.{arith}
+use mathlib.Core.Path.{_≡_, _∙_}
+use mathlib.Core.List.{List}
+use lib.ListN.{length}
+use lib.Seq.{take-all}
+use Rattle.wire.specs.Parts.{part}
+use Rattle.machine.specs.Checks.{clean, judge}
+use Rattle.machine.specs.Opening.{Opening, under, openingChecks}
+use Rattle.arbiter.proofs.Openings.{opening-no, opening-yes, whole-id}
+use borrow.Author.Needs.{needs}
+use Rattle.arbiter.proofs.opening.opened_with.Statement.{statement}
+use Rattle.arbiter.proofs.opening.opened_with.Tie as tie
+
+-- The checks are made.
+module _ (k : tie.After-tested2) where
+  abbrev given : Opening
+  given = under (k .before .before .before .before .before .before .args .settings) (k .before .before .before .before .before .before .args .id .now)
+
+  checked : k .tested2 .result ≡ judge clean (openingChecks given)
+  checked =
+      let t = k .before .before .before in
+      k .tested2 .ensures .0 ∙ rw (k .before .delay-fits .ensures, t .tested .ensures .0, t .before .unjudged .ensures .0)
+
+part-all : (id : List ℕ) → length id ≡ 16 → part id 0 16 ≡ id
+part-all id h = take-all 16 id (omega arith)
+
+returns : tie.Need-returns
+returns c = let k = c .before .before in opening-no (given k) _ (checked k) _ (c .if1 .taken)
+
+id-at-requires : tie.Need-id-at-requires
+id-at-requires c κs = let k = c .before .before in omega (arith, whole-id (given k) _ (checked k) (c .if1 .left))
+
+returns-2 : tie.Need-returns-2
+returns-2 c =
+    let y = c .before .before in
+    let k = y .before .before in
+    let id = (given k) .id in
+    rw (c .fresh-book .ensures, c .before .id-at .ensures, part-all id (whole-id (given k) _ (checked k) (y .if1 .left))) (opening-yes (given k) _ (checked k) _ (y .if1 .left))
+
+pub opened-with-spec : {M : Type 1} → statement M
+opened-with-spec =
+    tie.close
+    (tie.spec
+    (λ c κs. search needs)
+    (λ c κs. search needs)
+    (λ c. search needs)
+    (λ c κs. search needs)
+    (λ c κs. search needs)
+    returns
+    id-at-requires
+    (λ c κs. search needs)
+    returns-2)
