@@ -3,6 +3,7 @@ use arbiter::Book;
 use arbiter::Cents;
 use arbiter::Channel;
 use arbiter::Seconds;
+use arbiter::Setup;
 use wire::u64_at;
 use wire::wide;
 
@@ -40,7 +41,7 @@ fn changed(channel: Channel, field: u8, value: u64) -> Channel {
     after
 }
 
-// The field, the channel and the value, in ten bytes; 0 is the mark and 1 the clock.
+// The field, the channel and the value, in ten bytes; 0 is the mark, 1 the clock and 8 the default delay.
 pub fn overwritten(book: Book, bytes: &[u8]) -> Book {
     if bytes.len() != 10 {
         return book;
@@ -56,6 +57,11 @@ pub fn overwritten(book: Book, bytes: &[u8]) -> Book {
     if field == 1 {
         let clock = Seconds(value);
         after.clock = clock;
+        return after;
+    }
+    if field == 8 {
+        let setup = Setup { delay: value };
+        after.setup = setup;
         return after;
     }
     if n < 64 {

@@ -5,13 +5,28 @@ use crate::lines::print_due;
 use crate::lines::print_opened;
 use crate::lines::print_reading;
 use arbiter::Book;
+use arbiter::Settings;
 use wire::u16_at;
+use wire::u32_at;
 ghost use Prim.Native.Nat.{_+_, _≤_};
 ghost use lib.ListN.{length};
 
 // An opening, with the row's bytes as the id.
 fn open_row(book: Book, bytes: &[u8]) -> Book {
     let opened = arbiter::opened(book, bytes);
+    print_opened(opened.refusal);
+    opened.book
+}
+
+// An opening with settings: four bytes of default delay, then the id.
+fn open_with_row(book: Book, bytes: &[u8]) -> Book {
+    if bytes.len() < 4 {
+        return book;
+    }
+    let settings = Settings {
+        delay: u32_at(bytes, 0),
+    };
+    let opened = arbiter::opened_with(book, &bytes[4..], settings);
     print_opened(opened.refusal);
     opened.book
 }
@@ -49,6 +64,9 @@ fn row(book: Book, kind: u8, bytes: &[u8]) -> Book {
         print_due(arbiter::due_of(book));
         return book;
     }
+    if kind == 6 {
+        return open_with_row(book, bytes);
+    }
     overwritten(book, bytes)
 }
 
@@ -69,6 +87,25 @@ fn row_end(m: &[u8], at: usize) -> usize
     at + 3 + size
 }
 
+// A row of m, or once more the row that begins at the place in its four bytes.
+fn row_of(book: Book, m: &[u8], kind: u8, bytes: &[u8]) -> Book {
+    if kind != 7 {
+        return row(book, kind, bytes);
+    }
+    if bytes.len() != 4 {
+        return book;
+    }
+    let at = u32_at(bytes, 0) as usize;
+    if at >= m.len() {
+        return book;
+    }
+    let end = row_end(m, at);
+    if end - at < 3 {
+        return book;
+    }
+    row(book, m[at], &m[at + 3..end])
+}
+
 // Runs every whole row of m, on a book to lend.
 pub fn run(m: &[u8]) {
     let mut book = arbiter::blank();
@@ -78,7 +115,7 @@ pub fn run(m: &[u8]) {
         if end - at < 3 {
             return;
         }
-        let next = row(book, m[at], &m[at + 3..end]);
+        let next = row_of(book, m, m[at], &m[at + 3..end]);
         book = next;
         at = end;
     }

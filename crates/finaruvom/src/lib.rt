@@ -3,6 +3,7 @@ use arbiter::Answer;
 use arbiter::Book;
 use arbiter::Found;
 use arbiter::Reading;
+use arbiter::Settings;
 use journal::Line;
 use journal::Ran;
 use machine::LAYOUT;
@@ -10,7 +11,8 @@ ghost use mathlib.Core.Path.{_≡_};
 ghost use Rattle.sha256.specs.Answer.{hashAnswer};
 ghost use Rattle.lms.specs.Check.{checkOf};
 ghost use Rattle.machine.specs.Format.{size};
-ghost use Rattle.machine.specs.Book.{layout, opening, reading};
+ghost use Rattle.machine.specs.Book.{layout, reading};
+ghost use Rattle.machine.specs.Opening.{under, plainly, plainSettings, deskSettings, opening};
 ghost use Rattle.machine.specs.Due.{due};
 ghost use Rattle.machine.specs.Real.{realStep};
 ghost use Rattle.journal.specs.Runs.{runOf, ranOf};
@@ -32,7 +34,7 @@ pub extern "C" fn finaruvom_version() -> Version
 {
     Version {
         major: 0,
-        minor: 9,
+        minor: 10,
         patch: 0,
         layout: LAYOUT,
     }
@@ -40,7 +42,7 @@ pub extern "C" fn finaruvom_version() -> Version
 
 // Its name carries the layout, so that a program with another one's header does not link.
 #[no_mangle]
-pub extern "C" fn finaruvom_layout_2() -> u32
+pub extern "C" fn finaruvom_layout_3() -> u32
     ensures { λ r. ⌜ r ≡ layout ⌝ }
 {
     LAYOUT
@@ -85,13 +87,38 @@ pub extern "C" fn finaruvom_size(first: u8) -> usize
     arbiter::size_of(first)
 }
 
-// Makes any lent book fresh, with the id, and answers 0; an id that is not 16 bytes long gives 2 and keeps every value.
+// The plain opening: makes any lent book fresh, with the id, and answers 0; an id that is not 16 bytes long gives 2 and keeps every value.
 #[no_mangle]
 pub extern "C" fn finaruvom_open(book: &mut Book, id: &[u8]) -> u32
-    ensures { λ r. ⌜ (r ≡ opening (now (book .entry)) (now (id .entry)) .refusal)
-        × (now (book .exit) ≡ opening (now (book .entry)) (now (id .entry)) .book) ⌝ }
+    ensures { λ r. ⌜ (r ≡ opening (now (book .entry)) (plainly (now (id .entry))) .refusal)
+        × (now (book .exit) ≡ opening (now (book .entry)) (plainly (now (id .entry))) .book) ⌝ }
 {
     arbiter::open(book, id)
+}
+
+// The settings of the plain opening.
+#[no_mangle]
+pub extern "C" fn finaruvom_plain_settings() -> Settings
+    ensures { λ r. ⌜ r ≡ plainSettings ⌝ }
+{
+    arbiter::plain_settings()
+}
+
+// The settings that the desk opens new books with.
+#[no_mangle]
+pub extern "C" fn finaruvom_desk_settings() -> Settings
+    ensures { λ r. ⌜ r ≡ deskSettings ⌝ }
+{
+    arbiter::desk_settings()
+}
+
+// The opening with settings: 2 for the id, then 14 where the default delay is out of its range; refused, it keeps every value.
+#[no_mangle]
+pub extern "C" fn finaruvom_open_with(book: &mut Book, id: &[u8], settings: Settings) -> u32
+    ensures { λ r. ⌜ (r ≡ opening (now (book .entry)) (under settings (now (id .entry))) .refusal)
+        × (now (book .exit) ≡ opening (now (book .entry)) (under settings (now (id .entry))) .book) ⌝ }
+{
+    arbiter::open_with(book, id, settings)
 }
 
 // Carries a command out on the lent book, or refuses it and keeps every value.

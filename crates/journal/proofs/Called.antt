@@ -5,7 +5,7 @@ use mathlib.Core.List.{List, [], _∷_, _++_, append-nil, flatMap}
 use lib.ListN.{length, drop}
 use Rattle.sha256.specs.Digest.{sha256}
 use Rattle.machine.specs.Real.{lmsVerdict}
-use Rattle.machine.specs.Book.{opening}
+use Rattle.machine.specs.Opening.{opening}
 use Rattle.machine.specs.Ledger.{strings, Standing, recorded, after, Accounted}
 use Rattle.machine.specs.Machine.{step}
 use Rattle.machine.proofs.ThirdDemand.{third-demand-met}
@@ -46,6 +46,6 @@ pub calls-mean : (t : Standing) → CallsMean t
 calls-mean t = record { list = all-calls t; again = again t }
 
 pub journal-demand : JournalDemand
-journal-demand lent id ok l n h =
-    let t : Standing = record { book = (opening lent id) .book; history = [] } in
-    subst (λ (t : Standing). Accounted lmsVerdict sha256 id (t .book) (t .history) n (strings n (t .history))) (sym (all-calls t l)) (third-demand-met lent id ok (flatMap given l) n h)
+journal-demand lent o ok l n h =
+    let t : Standing = record { book = (opening lent o) .book; history = [] } in
+    subst (λ (t : Standing). Accounted lmsVerdict sha256 o (t .book) (t .history) n (strings n (t .history))) (sym (all-calls t l)) (third-demand-met lent o ok (flatMap given l) n h)

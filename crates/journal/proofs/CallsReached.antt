@@ -6,12 +6,13 @@ use native.Mathlib.Omega.{arith}
 use Rattle.wire.specs.Numbers.{u16At, u32At, u64At}
 use Rattle.wire.specs.Parts.{same}
 use Rattle.machine.specs.Format.{size}
-use Rattle.machine.specs.Book.{soundChannel, sound, blankBook, fresh, opening, reading}
+use Rattle.machine.specs.Book.{soundChannel, sound, reading}
 use Rattle.machine.specs.Checks.{ask}
+use Rattle.machine.specs.Opening.{fresh, opening, blankBook}
 use Rattle.machine.specs.Rules.{delayed, keyed, establish, fundCustomer, fundMerchant}
 use Rattle.machine.specs.Machine.{answer, plan, step}
 use Rattle.machine.specs.Ledger.{noAnswer, Standing, strings, sum, opcodes, deposits, paid}
-use Rattle.machine.proofs.Reached.{id, establishes, funds}
+use Rattle.machine.proofs.Reached.{opens, establishes, funds}
 use Rattle.journal.specs.declared.lines.Line.{Line}
 use Rattle.journal.specs.Runs.{nextBy, turnedOf, runOf}
 use Rattle.journal.specs.Divided.{divided, told}
@@ -23,10 +24,10 @@ blank = record { answer = noAnswer }
 
 -- A run with a line for 02 and none for 04, the string 03, and a run with 04 and a line to spare.
 abbrev list : List Call
-list = Call.run (establishes 5 ++ funds 4 5 100) (blank ∷ []) ∷ Call.apply (funds 3 5 900) ∷ Call.run (funds 4 5 100) (blank ∷ blank ∷ []) ∷ []
+list = Call.run (establishes 5 0 ++ funds 4 5 100) (blank ∷ []) ∷ Call.apply (funds 3 5 900) ∷ Call.run (funds 4 5 100) (blank ∷ blank ∷ []) ∷ []
 
 funded : Standing
-funded = calls (record { book = (opening blankBook id) .book; history = [] }) list
+funded = calls (record { book = (opening blankBook opens) .book; history = [] }) list
 
 -- The strings of channel 5 are those three, the last one first; so by the demand it holds their deposits.
 record Reached (t : Standing) : Type 0 where
@@ -37,4 +38,4 @@ record Reached (t : Standing) : Type 0 where
 
 reached : Reached funded
 unfolding funded u16At u32At u64At same size soundChannel sound fresh opening ask delayed keyed establish fundCustomer fundMerchant answer plan step strings sum opcodes nextBy turnedOf runOf divided told called
-reached = record { commands = refl; deposited = refl; unpaid = (refl, refl); holds = omega (arith, (journal-demand blankBook id refl list 5 (omega arith)) .conserved) }
+reached = record { commands = refl; deposited = refl; unpaid = (refl, refl); holds = omega (arith, (journal-demand blankBook opens refl list 5 (omega arith)) .conserved) }

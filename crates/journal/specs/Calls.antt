@@ -4,7 +4,7 @@ use mathlib.Core.Path.{_≡_}
 use mathlib.Core.List.{List, [], _∷_, _++_, foldl, flatMap}
 use lib.ListN.{length, drop}
 use Rattle.sha256.specs.Digest.{sha256}
-use Rattle.machine.specs.Book.{opening}
+use Rattle.machine.specs.Opening.{Opening, opening}
 use Rattle.machine.specs.Real.{lmsVerdict, realStep}
 use Rattle.machine.specs.Ledger.{strings, Standing, recorded, after, Accounted}
 use Rattle.machine.specs.declared.state.Book.{Book}
@@ -39,5 +39,5 @@ pub record CallsMean (t : Standing) : Type 0 where
 -- The third demand after every list of calls on a book just opened.
 abbrev pub JournalDemand : Type 0
 JournalDemand =
-    (lent : Book) (id : List ℕ) → (opening lent id) .refusal ≡ 0 → (l : List Call) (n : ℕ) → n < 64
-    → let t = calls (record { book = (opening lent id) .book; history = [] }) l in Accounted lmsVerdict sha256 id (t .book) (t .history) n (strings n (t .history))
+    (lent : Book) (o : Opening) → (opening lent o) .refusal ≡ 0 → (l : List Call) (n : ℕ) → n < 64
+    → let t = calls (record { book = (opening lent o) .book; history = [] }) l in Accounted lmsVerdict sha256 o (t .book) (t .history) n (strings n (t .history))

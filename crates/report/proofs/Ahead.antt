@@ -9,9 +9,9 @@ use lib.Dec.{ltb}
 use lib.ListN.{length, take, drop, length-drop}
 use lib.Seq.{append-snoc}
 use Rattle.io.specs.Counts.{Counts}
-use Rattle.machine.specs.Book.{blankBook, opening}
 use Rattle.report.specs.declared.parts.Part.{Part}
 use Rattle.report.specs.Lines.{noBook, tooLong}
+use Rattle.report.specs.Statement.{openedBy}
 use Rattle.report.specs.Parts.{whole, firstPart, nextPart, partsFrom, partsOf}
 use Rattle.report.proofs.Buffers.{stored-counts}
 use Rattle.report.proofs.Going.{goes}
@@ -36,7 +36,7 @@ module _ (input : List ℕ) where
   whole-first t e = record { printed = []; most = length input; all = e; goes-on = λ m. absurd (false≢true m); counts = stored-counts t }
 
   first-by : (x y : Bool) → ltb (length input) 16 ≡ x
-      → let p = cond x (whole noBook) (cond y (whole tooLong) (opened ((opening blankBook (take 16 input)) .book))) in
+      → let p = cond x (whole noBook) (cond y (whole tooLong) (opened (openedBy input))) in
       partsFrom (length input) (drop 16 input) p ≡ partsOf input → Ahead input p
   unfolding opened
   first-by true y e a = whole-first noBook a

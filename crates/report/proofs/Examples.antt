@@ -2,7 +2,8 @@
 use mathlib.Core.Path.{refl}
 use Rattle.wire.specs.Numbers.{bytes, u16At, u32At, u64At}
 use Rattle.machine.specs.Format.{size}
-use Rattle.machine.specs.Book.{soundChannel, sound, fresh, opening}
+use Rattle.machine.specs.Book.{soundChannel, sound}
+use Rattle.machine.specs.Opening.{fresh, opening}
 use Rattle.machine.specs.Checks.{ask}
 use Rattle.machine.specs.Rules.{settle}
 use Rattle.machine.specs.Machine.{answer, plan, step}

@@ -8,7 +8,6 @@ use borrow.Author.Tests.{eqb-true, eqb-false, eq-eqb, ne-eqb, ltb-true, ltb-fals
 use lib.Dec.{eqb, ltb}
 use lib.ListN.{length, take, drop, length-drop, length-take}
 use lib.Seq.{take-all, drop-drop}
-use Rattle.machine.specs.Book.{blankBook, opening}
 use Rattle.machine.specs.declared.state.Book.{Book}
 use Rattle.journal.specs.Runs.{Done, runOf}
 use Rattle.journal.specs.Continued.{written}
@@ -16,7 +15,7 @@ use Rattle.journal.proofs.Bounds.{run-bounds}
 use Rattle.report.specs.declared.parts.Part.{Part}
 use Rattle.report.specs.declared.parts.Reached.{Reached}
 use Rattle.report.specs.Lines.{linesFrom, endLine, noBook, tooLong}
-use Rattle.report.specs.Statement.{noLines, journalText, statementOf, NoFurther}
+use Rattle.report.specs.Statement.{noLines, journalText, openedBy, statementOf, NoFurther}
 use Rattle.report.specs.Parts.{stored, shown, begun, whole, textOf, ranFrom, firstPart, nextPart, partsFrom, printed, openEnded, PartsMean}
 use Rattle.report.proofs.Buffers.{shown-stored}
 use Rattle.report.proofs.Going.{length-noLines}
@@ -125,7 +124,7 @@ module _ (input : List ℕ) where
   n = length input
 
   abbrev book : Book
-  book = (opening blankBook (take 16 input)) .book
+  book = openedBy input
 
   by-length : (x y : Bool) → ltb n 16 ≡ x
       → Means (partsFrom n (drop 16 input) (cond x (whole noBook) (cond y (whole tooLong) (opened book)))) (cond x noBook (cond y tooLong (journalText book (drop 16 input))))

@@ -5,7 +5,7 @@ use mathlib.Core.Bool.{Bool, true, false, cond}
 use mathlib.Core.List.{List, [], _∷_, _++_}
 use lib.Dec.{eqb, ltb}
 use lib.ListN.{length, take, drop, replicate}
-use Rattle.machine.specs.Book.{blankBook, opening}
+use Rattle.machine.specs.Opening.{blankBook}
 use Rattle.machine.specs.declared.state.Book.{Book}
 use Rattle.journal.specs.declared.lines.Line.{Line}
 use Rattle.journal.specs.declared.runs.Ran.{Ran}
@@ -15,7 +15,7 @@ use Rattle.report.specs.declared.parts.Reached.{Reached}
 use Rattle.report.specs.declared.texts.Text.{Text}
 use Rattle.report.specs.Numbers.{pasted}
 use Rattle.report.specs.Lines.{linesFrom, endLine, noBook, tooLong}
-use Rattle.report.specs.Statement.{noLines, statementOf}
+use Rattle.report.specs.Statement.{noLines, openedBy, statementOf}
 
 -- ---- a text in a buffer
 
@@ -46,7 +46,7 @@ unfoldable pub firstPart : List ℕ → Part
 firstPart input =
     cond (ltb (length input) 16) (whole noBook)
     (cond (ltb 65536 (length input)) (whole tooLong)
-    (record { text = stored []; more = true; next = begun ((opening blankBook (take 16 input)) .book) }))
+    (record { text = stored []; more = true; next = begun (openedBy input) }))
 
 -- The text of a run: its lines, numbered from a number on, and the end where lines are not short.
 unfoldable pub textOf : List Line → Ran → ℕ → ℕ → List ℕ

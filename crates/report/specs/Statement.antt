@@ -5,7 +5,7 @@ use mathlib.Core.Bool.{cond}
 use mathlib.Core.List.{List, _++_}
 use lib.Dec.{ltb}
 use lib.ListN.{length, take, drop, replicate}
-use Rattle.machine.specs.Book.{blankBook, opening}
+use Rattle.machine.specs.Opening.{plainly, opening, blankBook}
 use Rattle.machine.specs.Ledger.{noAnswer}
 use Rattle.machine.specs.declared.state.Book.{Book}
 use Rattle.journal.specs.declared.lines.Line.{Line}
@@ -29,12 +29,16 @@ runText d = linesFrom 1 ((written d) .lines) ++ endLine (d .used) (d .cause)
 abbrev pub journalText : Book → List ℕ → List ℕ
 journalText b cs = runText (runOf b cs (noLines (length cs)))
 
+-- The book of an input: the plain opening with its first 16 bytes as the id.
+abbrev pub openedBy : List ℕ → Book
+openedBy input = (opening blankBook (plainly (take 16 input))) .book
+
 -- The id and then a journal; below 16 bytes `no book`, above 65,536 in all `too long`.
 unfoldable pub statementOf : List ℕ → List ℕ
 statementOf input =
     cond (ltb (length input) 16) noBook
     (cond (ltb 65536 (length input)) tooLong
-    (journalText ((opening blankBook (take 16 input)) .book) (drop 16 input)))
+    (journalText (openedBy input) (drop 16 input)))
 
 -- Lines are never short, so cause 13 is never printed; what the lines held, and how many more there are, counts for nothing.
 pub record JournalMeans (b : Book) (cs : List ℕ) : Type 0 where
