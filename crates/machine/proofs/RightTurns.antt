@@ -39,7 +39,7 @@ first-no r x l b o e h =
 -- ---- what lies outside the range of delays
 
 below-range : (d : ℕ) → d < 3600 → ranged d ≡ false
-below-range d h = rw (lt-leb _ _ h)
+below-range d h = and-middle true (leb 3600 d) (leb d 2592000) (lt-leb _ _ h)
 
 above-range : (d : ℕ) → 2592000 < d → ranged d ≡ false
 above-range d h = go (leb 3600 d)
