@@ -1,4 +1,4 @@
-// Written from document 01, as a program in C would have it: no copy of the book.
+// Written from documents 01 and 02 (No. 1), as a program in C would have it: no copy of the book.
 #include "book.h"
 #include <string.h>
 
@@ -11,15 +11,19 @@ static uint64_t number(const uint8_t *s, int bytes) {
     return x;
 }
 
+static bool delay_fits(uint64_t delay) {
+    return delay >= 3600 && delay <= 2592000;
+}
+
 static bool sound_channel(const struct finaruvom_channel *ch) {
     if (ch->status == 0)
         return true;
     uint64_t c = ch->customer.deposit, b = ch->merchant.deposit;
-    return ch->status <= 6 && c <= MOST && b <= MOST - c && ch->delay >= 3600 && ch->delay <= 2592000 && (ch->status != 5 || ch->kept <= c + b);
+    return ch->status <= 6 && c <= MOST && b <= MOST - c && delay_fits(ch->delay) && (ch->status != 5 || ch->kept <= c + b);
 }
 
 static bool sound(const struct finaruvom_book *book) {
-    bool ok = book->mark == MARK && book->clock <= MOST;
+    bool ok = book->mark == MARK && delay_fits(book->setup.delay) && book->clock <= MOST;
     for (int i = 0; i < 64; i++)
         ok &= sound_channel(&book->channels[i]);
     return ok;
@@ -29,13 +33,13 @@ static bool typed(const uint8_t *key) {
     return number(key, 4) == 6 && number(key + 4, 4) == 4;
 }
 
-static uint32_t establish(struct finaruvom_channel *ch, const uint8_t *s) {
+static uint32_t establish(struct finaruvom_channel *ch, const uint8_t *s, uint64_t default_delay) {
     uint64_t c = number(s + 115, 8), b = number(s + 123, 8), delay = number(s + 131, 4);
     if (ch->status != 0)
         return 5;
     if (!typed(s + 3) || !typed(s + 59) || memcmp(s + 3, s + 59, 56) == 0)
         return 6;
-    if (delay != 0 && (delay < 3600 || delay > 2592000))
+    if (delay != 0 && !delay_fits(delay))
         return 7;
     if (c == 0 || c > MOST || b > MOST - c)
         return 8;
@@ -43,7 +47,7 @@ static uint32_t establish(struct finaruvom_channel *ch, const uint8_t *s) {
     memcpy(ch->merchant.key, s + 59, 56);
     ch->customer.deposit = c;
     ch->merchant.deposit = b;
-    ch->delay = delay ? (uint32_t)delay : 86400;
+    ch->delay = (uint32_t)(delay ? delay : default_delay);
     ch->status = 1;
     return 0;
 }
@@ -97,7 +101,7 @@ struct finaruvom_answer plain_apply(struct finaruvom_book *book, const uint8_t *
         return refuse(4);
     struct finaruvom_channel *ch = &book->channels[place];
     if (op == 2)
-        return refuse(establish(ch, command));
+        return refuse(establish(ch, command, book->setup.delay));
     if (op == 3 || op == 4)
         return refuse(fund(ch, op, number(command + 3, 8)));
     return op == 10 ? settle(ch, book->clock) : refuse(5);

@@ -41,6 +41,11 @@ static void read_input(const char *path) {
     must(input_n >= FINARUVOM_ID_SIZE && input_n <= INPUT, "no book id, or a journal that is too long");
 }
 
+// A new book of the desk's: a till's delay of 0 stands for two days in it.
+static void open_new(struct finaruvom_book *lent) {
+    must(finaruvom_open_with(lent, input, FINARUVOM_ID_SIZE, finaruvom_desk_settings()) == FINARUVOM_ACCEPTED, "the opening was refused");
+}
+
 // What the desk knows of a channel, and which one is due next.
 static void show(size_t n) {
     struct finaruvom_reading r = finaruvom_read(&book, n);
@@ -80,13 +85,13 @@ static void file_all(void) {
     }
 }
 
-// After a crash: a book opened with the same id, and the journal run again, so many lines at a time. Answers and book are the same.
+// After a crash: a book opened with the same id and settings, and the journal run again, so many lines at a time. Answers and book are the same.
 static void recover(void) {
     static struct finaruvom_book again;
     struct finaruvom_line lines[BATCH];
     size_t at = FINARUVOM_ID_SIZE, line = 0;
     struct finaruvom_ran ran;
-    must(finaruvom_open(&again, input, FINARUVOM_ID_SIZE) == FINARUVOM_ACCEPTED, "the opening was refused");
+    open_new(&again);
     do {
         ran = finaruvom_run(&again, input + at, input_n - at, lines, BATCH);
         must(line + ran.lines <= filed && memcmp(lines, answers + line, ran.lines * sizeof lines[0]) == 0, "other answers");
@@ -98,13 +103,18 @@ static void recover(void) {
     printf("run again: %zu lines, the same answers and the same book\n", line);
 }
 
-// A refused command leaves every byte of the book.
+// A refused command, and a refused opening, leave every byte of the book.
 static void refuse(void) {
     static const uint8_t settle[] = {0x0a, 0, FINARUVOM_CHANNELS};
     struct finaruvom_book before = book;
+    struct finaruvom_settings settings = finaruvom_plain_settings();
     struct finaruvom_answer a = finaruvom_apply(&book, settle, sizeof settle);
     must(a.refusal == FINARUVOM_CHANNEL && memcmp(&before, &book, sizeof book) == 0, "a refused command left a trace");
     puts("a settle of channel 64, which no book has: refused with 4, and every byte stays");
+    settings.delay = FINARUVOM_SHORTEST_DELAY - 1;
+    uint32_t refusal = finaruvom_open_with(&book, input, FINARUVOM_ID_SIZE, settings);
+    must(refusal == FINARUVOM_DEFAULT && memcmp(&before, &book, sizeof book) == 0, "a refused opening left a trace");
+    puts("an opening with a default delay of 3,599 seconds: refused with 14, and every byte stays");
 }
 
 // A book that was damaged where it shows, and one of another layout: every call says so.
@@ -122,7 +132,7 @@ int main(int argc, char **argv) {
     must(argc == 2, "desk JOURNAL");
     check_version();
     read_input(argv[1]);
-    must(finaruvom_open(&book, input, FINARUVOM_ID_SIZE) == FINARUVOM_ACCEPTED, "the opening was refused");
+    open_new(&book);
     file_all();
     recover();
     refuse();

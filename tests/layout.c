@@ -101,7 +101,7 @@ static void establish(uint8_t s[135], uint32_t delay) {
 
 // An opening of the book, whatever stands there, with this default delay.
 static uint32_t open_with(size_t id_n, uint32_t delay) {
-    static const uint8_t id[16] = {9};
+    static const uint8_t id[17] = {9};
     struct finaruvom_settings settings = finaruvom_plain_settings();
     settings.delay = delay;
     return finaruvom_open_with(&book, id, id_n, settings);

@@ -1,5 +1,5 @@
 // Stored books: stored FOLDER, which has a book of each layout, written after 18 commands of the sample journal. This layout's is read as it was
-// written; every other is answered with 99, and an opening over it leaves the bytes of every fresh book.
+// written; every other, and one with a default delay out of range, is answered with 99, and an opening over it leaves the bytes of every fresh book.
 #include "../include/finaruvom.h"
 #include <stdio.h>
 #include <stdlib.h>
@@ -100,6 +100,6 @@ int main(int argc, char **argv) {
         memset(&lent, old, sizeof lent);
         opened("a fresh book depends on what stood there");
     }
-    puts("ok: this layout's book is read as written, those of others or with another default are answered with 99, and an opening over any bytes leaves the same");
+    puts("ok: this layout's book is read as written, others are answered with 99, and an opening over any bytes leaves the same ones");
     return 0;
 }

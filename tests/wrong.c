@@ -35,6 +35,42 @@ uint32_t finaruvom_open(struct finaruvom_book *book, const uint8_t *id, size_t i
 }
 #endif
 
+#ifdef PLAIN_SETTINGS // THE_DESKS
+struct finaruvom_settings finaruvom_plain_settings(void) {
+    return finaruvom_desk_settings();
+}
+#endif
+
+#ifdef OPEN_WITH
+uint32_t right(struct finaruvom_book *book, const uint8_t *id, size_t id_n, struct finaruvom_settings settings);
+
+uint32_t finaruvom_open_with(struct finaruvom_book *book, const uint8_t *id, size_t id_n, struct finaruvom_settings settings) {
+#ifdef IGNORES_SETTINGS
+    settings.delay = FINARUVOM_PLAIN_DELAY;
+#endif
+#ifdef DEFAULT_FIRST
+    if (settings.delay < FINARUVOM_SHORTEST_DELAY)
+        return FINARUVOM_DEFAULT;
+#endif
+#ifdef ZERO_IS_PLAIN
+    if (settings.delay == 0)
+        settings.delay = FINARUVOM_PLAIN_DELAY;
+#endif
+    uint32_t refusal = right(book, id, id_n, settings);
+#ifdef STORES_ANYWAY
+    book->setup.delay = settings.delay;
+#endif
+    return refusal;
+}
+#endif
+
+// What an apply reads in place of the book's default.
+#if defined ALWAYS_A_DAY
+#define ANOTHER_DEFAULT(delay) FINARUVOM_PLAIN_DELAY
+#elif defined HALF_THE_DEFAULT
+#define ANOTHER_DEFAULT(delay) (uint32_t)(delay)
+#endif
+
 #ifdef APPLY
 struct finaruvom_answer right(struct finaruvom_book *book, const uint8_t *command, size_t command_n);
 
@@ -51,9 +87,16 @@ struct finaruvom_answer finaruvom_apply(struct finaruvom_book *book, const uint8
     uint64_t mark = book->mark;
     book->mark = 0x6172626974657200 + FINARUVOM_LAYOUT;
 #endif
+#ifdef ANOTHER_DEFAULT
+    uint64_t delay = book->setup.delay;
+    book->setup.delay = ANOTHER_DEFAULT(delay);
+#endif
     struct finaruvom_answer answer = right(book, command, command_n);
 #ifdef ANY_LAYOUT
     book->mark = mark;
+#endif
+#ifdef ANOTHER_DEFAULT
+    book->setup.delay = delay;
 #endif
 #ifdef SWAPS
     swap(&answer);

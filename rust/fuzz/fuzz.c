@@ -146,6 +146,22 @@ static void call_open(struct finaruvom_book *book) {
     give_back(id);
 }
 
+// A default in range, at its edges, or any.
+static void call_open_with(struct finaruvom_book *book) {
+    static const uint32_t delays[] = {0, 3599, 3600, 172800, 2592000, 2592001, UINT32_MAX};
+    struct buffer id = lend(below(4) == 0 ? below(40) : FINARUVOM_ID_SIZE);
+    struct finaruvom_settings settings = below(2) == 0 ? finaruvom_plain_settings() : finaruvom_desk_settings();
+    if (below(2) == 0) {
+        settings.delay = below(4) == 0 ? (uint32_t)number() : delays[below(7)];
+    }
+    seal(&id);
+    uint32_t refusal = finaruvom_open_with(book, id.bytes, id.n, settings);
+    bool fits = settings.delay >= FINARUVOM_SHORTEST_DELAY && settings.delay <= FINARUVOM_LONGEST_DELAY;
+    require(refusal == (id.n != FINARUVOM_ID_SIZE ? FINARUVOM_LENGTH : fits ? FINARUVOM_ACCEPTED : FINARUVOM_DEFAULT), "open_with: refusal");
+    require(refusal != FINARUVOM_ACCEPTED || book->setup.delay == settings.delay, "open_with: default");
+    give_back(id);
+}
+
 static void call_apply(struct finaruvom_book *book) {
     struct buffer string = command();
     seal(&string);
@@ -180,7 +196,10 @@ static void call_read(const struct finaruvom_book *book) {
 static void one_round(void) {
     struct buffer lent = lend(sizeof(struct finaruvom_book));
     struct finaruvom_book *book = (struct finaruvom_book *)lent.bytes;
-    if (below(4) != 0) {
+    size_t opening = below(4);
+    if (opening == 1) {
+        call_open_with(book);
+    } else if (opening != 0) {
         call_open(book);
     }
     if (below(8) == 0) {
@@ -192,6 +211,7 @@ static void one_round(void) {
         call_read(book);
     }
     call_open(book);
+    call_open_with(book);
     call_check();
     call_hash();
     give_back(lent);

@@ -1,20 +1,31 @@
-//! Books with any values, biased to edges.
+//! Books with any values, and openings of any kind, biased to edges.
 use crate::bridge::mark;
+use crate::pair::Opening;
 use crate::rng::Rng;
 use crate::wallet::Wallet;
-use finaruvom::raw::{Book, Channel, Party};
-use finaruvom::{Cents, Seconds};
-use oracle::{digest, LARGEST, LONGEST_DELAY, SHORTEST_DELAY};
+use finaruvom::raw::{Book, Channel, Party, Setup};
+use finaruvom::{Cents, Seconds, Settings};
+use oracle::{digest, DESK_DEFAULT, LARGEST, LONGEST_DELAY, PLAIN_DEFAULT, SHORTEST_DELAY};
 
-const DELAYS: [u32; 8] = [
+const DELAYS: [u32; 9] = [
     0,
     SHORTEST_DELAY - 1,
     SHORTEST_DELAY,
     SHORTEST_DELAY + 1,
-    86_400,
+    PLAIN_DEFAULT,
+    DESK_DEFAULT,
     LONGEST_DELAY,
     LONGEST_DELAY + 1,
     u32::MAX,
+];
+
+/// Defaults that no delay can be; the low half of some is one in range.
+const WIDE_DEFAULTS: [u64; 5] = [
+    1 << 32,
+    (1 << 32) + 3_600,
+    (1 << 32) + 86_400,
+    1 << 63,
+    u64::MAX,
 ];
 
 /// Statuses that are none, but for 5. Some would be one if a part of their bits were dropped.
@@ -40,6 +51,7 @@ pub fn wild_book(rng: &mut Rng, wallet: &Wallet) -> Book {
     Book {
         mark: if rng.one_in(2) { mark() } else { rng.edge() },
         id: rng.array(),
+        setup: wild_setup(rng),
         clock: Seconds(clock),
         channels,
     }
@@ -56,6 +68,9 @@ pub fn sound_book(rng: &mut Rng, wallet: &Wallet) -> Book {
     Book {
         mark: mark(),
         id: [rng.pick(&[0, 0xff]); 16],
+        setup: Setup {
+            delay: Seconds(u64::from(default_in_range(rng))),
+        },
         clock: Seconds(clock),
         channels,
     }
@@ -69,10 +84,50 @@ pub fn touched_book(rng: &mut Rng, wallet: &Wallet) -> Book {
         match rng.below(8) {
             0 => book.mark ^= 1 << rng.below(64),
             1 => book.clock = Seconds(rng.edge()),
+            2 => book.setup = wild_setup(rng),
             _ => touch(rng, &mut book.channels[at]),
         }
     }
     book
+}
+
+/// An opening: the plain one, or one with settings that are in range or not.
+pub fn opening(rng: &mut Rng) -> Opening {
+    Opening::With(match rng.below(6) {
+        0 => return Opening::Plain,
+        1 => Settings::default(),
+        2 => Settings::desk(),
+        3 => Settings {
+            delay: default_in_range(rng),
+        },
+        _ => Settings {
+            delay: rng.pick(&DELAYS),
+        },
+    })
+}
+
+/// A default in its range, at its edges or between.
+fn default_in_range(rng: &mut Rng) -> u32 {
+    let between = SHORTEST_DELAY + rng.below((LONGEST_DELAY - SHORTEST_DELAY) as usize) as u32;
+    rng.pick(&[
+        SHORTEST_DELAY,
+        PLAIN_DEFAULT,
+        DESK_DEFAULT,
+        between,
+        LONGEST_DELAY,
+    ])
+}
+
+/// A default of any kind.
+fn wild_setup(rng: &mut Rng) -> Setup {
+    let delay = match rng.below(4) {
+        0 => rng.edge(),
+        1 => rng.pick(&WIDE_DEFAULTS),
+        _ => u64::from(rng.pick(&DELAYS)),
+    };
+    Setup {
+        delay: Seconds(delay),
+    }
 }
 
 /// Changes one value of a channel.

@@ -7,6 +7,9 @@ use std::sync::OnceLock;
 /// paper's.
 const OTHER: u8 = u8::MAX;
 
+/// The oracle's default of a book whose own default the oracle cannot hold. It is out of range.
+const OTHER_DEFAULT: u32 = u32::MAX;
+
 /// The mark that every opening writes.
 pub fn mark() -> u64 {
     static MARK: OnceLock<u64> = OnceLock::new();
@@ -27,6 +30,7 @@ pub fn to_oracle(raw: &raw::Book) -> oracle::Book {
     oracle::Book {
         marked: raw.mark == mark(),
         id: raw.id,
+        default_delay: u32::try_from(raw.setup.delay.0).unwrap_or(OTHER_DEFAULT),
         clock: raw.clock.0,
         channels: raw.channels.map(|channel| oracle::Channel {
             status: u8::try_from(channel.status).unwrap_or(OTHER),
@@ -40,8 +44,8 @@ pub fn to_oracle(raw: &raw::Book) -> oracle::Book {
     }
 }
 
-/// The library's book with the same values. A mark or a status that the oracle cannot hold is the
-/// one before: only an opening changes it.
+/// The library's book with the same values. A mark, a default or a status that the oracle cannot
+/// hold is the one before: only an opening changes it.
 pub fn to_raw(book: &oracle::Book, before: &raw::Book) -> raw::Book {
     let party = |party: &oracle::Party| Party {
         key: party.key,
@@ -62,9 +66,14 @@ pub fn to_raw(book: &oracle::Book, before: &raw::Book) -> raw::Book {
             lock: channel.lock,
         }
     };
+    let delay = match book.default_delay {
+        OTHER_DEFAULT => before.setup.delay,
+        delay => Seconds(u64::from(delay)),
+    };
     raw::Book {
         mark: if book.marked { mark() } else { before.mark },
         id: book.id,
+        setup: raw::Setup { delay },
         clock: Seconds(book.clock),
         channels: std::array::from_fn(channel),
     }

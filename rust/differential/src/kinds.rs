@@ -1,21 +1,27 @@
-//! Commands that come up by design alone.
+//! Commands, openings and books that come up by design alone.
 use crate::wallet::bits_apart;
-use oracle::{digest, Book, TYPES};
+use oracle::{digest, Book, PLAIN_DEFAULT, TYPES};
 
 /// The kinds that every run must meet.
-pub const KINDS: [&str; 7] = [
+pub const KINDS: [&str; 12] = [
     EQUAL,
     IDENTIFIERS,
     ROOTS,
+    DEFAULT_READ,
     LOCK_START,
     LOCK_MIDDLE,
     LOCK_END,
     FILED,
+    ACCEPTED,
+    ID_REFUSED,
+    DEFAULT_REFUSED,
+    DEFAULT_UNSOUND,
 ];
 
 const EQUAL: &str = "02 refused for equal keys";
 const IDENTIFIERS: &str = "02 accepted with identifiers one bit apart";
 const ROOTS: &str = "02 accepted with roots one bit apart";
+const DEFAULT_READ: &str = "02 accepted with a delay of 0 and another default than the plain one";
 const LOCK_START: &str = "09 refused for a bit in the lock's first byte";
 const LOCK_MIDDLE: &str = "09 refused for a bit between";
 const LOCK_END: &str = "09 refused for a bit in the lock's last byte";
@@ -23,10 +29,21 @@ const LOCK_END: &str = "09 refused for a bit in the lock's last byte";
 /// A lock that a 07 of the same journal filed.
 pub const FILED: &str = "09 refused for a bit of the lock in its 07";
 
+/// Openings by their answers.
+pub const ACCEPTED: &str = "openings accepted";
+pub const ID_REFUSED: &str = "openings refused for the id";
+pub const DEFAULT_REFUSED: &str = "openings refused for the default";
+
+/// A book that would be sound with the plain default.
+pub const DEFAULT_UNSOUND: &str = "books unsound by their default alone";
+
 /// The kind of a command with this answer, if it is one of them.
 pub fn kind(book: &Book, command: &[u8], refusal: u8) -> Option<&'static str> {
     match (command, refusal) {
-        ([0x02, _, _, operands @ ..], 0 | 6) => keys(&operands[..56], &operands[56..112]),
+        ([0x02, _, _, operands @ ..], 0 | 6) => {
+            let rest = default_read(book, &operands[128..], refusal);
+            keys(&operands[..56], &operands[56..112]).or(rest)
+        }
         ([0x09, _, low, operands @ ..], 10) => {
             let lock = &book.channels[usize::from(*low)].lock;
             secret(&operands[..32], lock)
@@ -45,6 +62,12 @@ fn keys(customer: &[u8], merchant: &[u8]) -> Option<&'static str> {
         ([true, true], 0, 1) => Some(ROOTS),
         _ => None,
     }
+}
+
+/// A delay of 0 that stands for another default than the plain one.
+fn default_read(book: &Book, delay: &[u8], refusal: u8) -> Option<&'static str> {
+    let read = refusal == 0 && delay == [0; 4] && book.default_delay != PLAIN_DEFAULT;
+    read.then_some(DEFAULT_READ)
 }
 
 /// A secret whose hash is the lock but for one bit.

@@ -3,12 +3,18 @@
 mod journal;
 
 use crate::bridge::{to_answer, to_oracle, to_paid, to_raw};
-use crate::kinds::kind;
+use crate::kinds::{kind, ACCEPTED, DEFAULT_REFUSED, ID_REFUSED};
 use crate::tally::Tally;
-use finaruvom::{raw, Answer, Book, Refusal};
+use finaruvom::{raw, Answer, Book, Refusal, Settings};
 
 /// Nothing, or what differs.
 pub type Outcome = Result<(), String>;
+
+/// How a book is opened.
+pub enum Opening {
+    Plain,
+    With(Settings),
+}
 
 /// Two books that must stay equal.
 #[derive(Clone)]
@@ -26,7 +32,7 @@ impl Pair {
         }
     }
 
-    /// Both fresh.
+    /// Both fresh, by the plain opening.
     pub fn fresh(id: [u8; 16]) -> Result<Pair, String> {
         let library = Book::open(&id).map_err(|refusal| refusal.to_string())?;
         let oracle = oracle::Book::fresh(id);
@@ -35,17 +41,25 @@ impl Pair {
         Ok(pair)
     }
 
-    /// Opens both.
-    pub fn open(&mut self, id: &[u8], tally: &mut Tally) -> Outcome {
+    /// Opens both, and gives the refusal, or 0.
+    pub fn open(&mut self, id: &[u8], how: &Opening, tally: &mut Tally) -> Result<u8, String> {
         let before = self.library.as_raw().clone();
-        let library = match self.library.reopen(id) {
-            Ok(()) => 0,
-            Err(refusal) => refusal.number(),
+        let (library, oracle) = match how {
+            Opening::Plain => (self.library.reopen(id), self.oracle.open(id)),
+            Opening::With(settings) => (
+                self.library.reopen_with(id, settings),
+                self.oracle.open_with(id, settings.delay),
+            ),
         };
-        let oracle = self.oracle.open(id);
-        tally.compared("openings");
+        let library = library.map_or_else(Refusal::number, |()| 0);
+        tally.compared(match oracle {
+            0 => ACCEPTED,
+            2 => ID_REFUSED,
+            _ => DEFAULT_REFUSED,
+        });
         same("opening", &library, &oracle)?;
-        self.agree(&before)
+        self.agree(&before)?;
+        Ok(oracle)
     }
 
     /// Gives both a command, and the answer.
@@ -81,6 +95,7 @@ impl Pair {
         let (library, oracle) = (self.library.as_raw(), oracle.as_raw());
         same("mark", &library.mark, &oracle.mark)?;
         same("id", &library.id, &oracle.id)?;
+        same("setup", &library.setup, &oracle.setup)?;
         same("clock", &library.clock, &oracle.clock)?;
         for (n, channel) in library.channels.iter().enumerate() {
             same(&format!("channel {n}"), channel, &oracle.channels[n])?;

@@ -4,7 +4,9 @@ use finaruvom::command::{
     CustomerClose, Dispute, Establish, FundCustomer, FundMerchant, MutualClose, SetClock, Settle,
     Signatures,
 };
-use finaruvom::{hash, Book, Cents, Payments, Refusal, Seconds, Status, ID_SIZE, SIGNATURE_SIZE};
+use finaruvom::{
+    hash, Book, Cents, Payments, Refusal, Seconds, Settings, Status, ID_SIZE, SIGNATURE_SIZE,
+};
 use oracle::{digest, Signer};
 
 const ID: [u8; ID_SIZE] = *b"corner desk 2026";
@@ -46,7 +48,7 @@ struct Desk {
 impl Desk {
     fn new() -> Result<Desk, Refusal> {
         Ok(Desk {
-            book: Book::open(&ID)?,
+            book: Book::open_with(&ID, &Settings::desk())?,
             cafe: Till::new(1),
             bakery: Till::new(2),
             paid: Payments::default(),
@@ -77,7 +79,8 @@ impl Desk {
         Ok(())
     }
 
-    /// A channel with 900 of the café and 100 of the bakery, open.
+    /// A channel with 900 of the café and 100 of the bakery, open. Its delay is the book's default,
+    /// two days.
     fn open_channel(&mut self, channel: u16) -> Result<(), Refusal> {
         let establish = Establish {
             channel,
@@ -85,7 +88,7 @@ impl Desk {
             merchant_key: self.bakery.signer.key(),
             customer: Cents(900),
             merchant: Cents(100),
-            delay: 7_200,
+            delay: 0,
         };
         let cafe = FundCustomer {
             channel,
@@ -189,7 +192,7 @@ fn settled(desk: &mut Desk) -> Result<(), Refusal> {
     println!("channel 2 not settled yet: {early}");
 
     restored(desk)?;
-    desk.at(3)?;
+    desk.at(49)?;
     assert_eq!(desk.book.due(), Some(2));
     assert_eq!(desk.book.read(2)?.deadline, desk.book.clock());
     let paid = desk.file("channel 2 settled", &settle)?;

@@ -3,6 +3,7 @@ use crate::answer::Answer;
 use crate::linked::same_layout;
 use crate::raw;
 use crate::refusal::Refusal;
+use crate::settings::Settings;
 use crate::sizes::{CHANNELS, DIGEST_SIZE, ID_SIZE, KEY_SIZE};
 use crate::units::{Cents, Seconds};
 
@@ -50,7 +51,7 @@ pub struct Book {
 }
 
 impl Book {
-    /// A fresh book with this id.
+    /// A fresh book with this id, by the plain opening: a delay of 0 stands for a day.
     ///
     /// # Errors
     ///
@@ -61,7 +62,31 @@ impl Book {
         Ok(book)
     }
 
-    /// Makes this book fresh, whatever it holds.
+    /// A fresh book with this id and these settings.
+    ///
+    /// ```
+    /// use finaruvom::{Book, Refusal, Settings};
+    ///
+    /// let book = Book::open_with(&[7; 16], &Settings::desk())?;
+    /// assert_eq!(book.as_raw().setup.delay.0, 172_800);
+    /// let hour = Settings { delay: 3_600 };
+    /// assert!(Book::open_with(&[7; 16], &hour).is_ok());
+    /// let less = Settings { delay: 3_599 };
+    /// assert_eq!(Book::open_with(&[7; 16], &less), Err(Refusal::Default));
+    /// # Ok::<(), Refusal>(())
+    /// ```
+    ///
+    /// # Errors
+    ///
+    /// [`Refusal::Length`] where the id is not [`ID_SIZE`] bytes long, then [`Refusal::Default`]
+    /// where the default delay is not 3,600 to 2,592,000.
+    pub fn open_with(id: &[u8], settings: &Settings) -> Result<Book, Refusal> {
+        let mut book = Book::from_raw(UNOPENED);
+        book.reopen_with(id, settings)?;
+        Ok(book)
+    }
+
+    /// Makes this book fresh by the plain opening, whatever it holds.
     ///
     /// # Errors
     ///
@@ -69,6 +94,19 @@ impl Book {
     pub fn reopen(&mut self, id: &[u8]) -> Result<(), Refusal> {
         // SAFETY: the book is lent exclusively and the slice is readable.
         let number = unsafe { raw::finaruvom_open(&raw mut self.raw, id.as_ptr(), id.len()) };
+        Refusal::checked(number)
+    }
+
+    /// Makes this book fresh with these settings, whatever it holds.
+    ///
+    /// # Errors
+    ///
+    /// As [`Book::open_with`]; the book keeps every value.
+    pub fn reopen_with(&mut self, id: &[u8], settings: &Settings) -> Result<(), Refusal> {
+        let settings = settings.to_raw();
+        // SAFETY: the book is lent exclusively and the slice is readable.
+        let number =
+            unsafe { raw::finaruvom_open_with(&raw mut self.raw, id.as_ptr(), id.len(), settings) };
         Refusal::checked(number)
     }
 
@@ -138,6 +176,7 @@ const UNOPENED: raw::Book = {
     raw::Book {
         mark: 0,
         id: [0; ID_SIZE],
+        setup: raw::Setup { delay: Seconds(0) },
         clock: Seconds(0),
         channels: [channel; CHANNELS],
     }

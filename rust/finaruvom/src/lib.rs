@@ -45,6 +45,7 @@ mod numbered;
 pub mod raw;
 mod reading;
 mod refusal;
+mod settings;
 mod signature;
 mod sizes;
 mod stored;
@@ -58,6 +59,10 @@ pub use numbered::UnknownNumber;
 pub use raw::Versions;
 pub use reading::{Reading, Status};
 pub use refusal::Refusal;
+pub use settings::Settings;
 pub use signature::{check, hash, Verdict};
-pub use sizes::{BOOK_SIZE, CHANNELS, DIGEST_SIZE, ID_SIZE, KEY_SIZE, LAYOUT, SIGNATURE_SIZE};
+pub use sizes::{
+    BOOK_SIZE, CHANNELS, DESK_DELAY, DIGEST_SIZE, ID_SIZE, KEY_SIZE, LAYOUT, LONGEST_DELAY,
+    PLAIN_DELAY, SHORTEST_DELAY, SIGNATURE_SIZE,
+};
 pub use units::{Cents, Seconds};

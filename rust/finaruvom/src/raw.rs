@@ -39,6 +39,14 @@ pub struct Channel {
     pub lock: [u8; DIGEST_SIZE],
 }
 
+/// What a book keeps of its opening.
+#[repr(C)]
+#[derive(Clone, Copy, Debug, PartialEq, Eq, Hash)]
+pub struct Setup {
+    /// The default delay, which a 0 in command 02 stands for.
+    pub delay: Seconds,
+}
+
 /// A book as it is stored. Any values may stand in it: an unsound one is refused with 99.
 ///
 /// A second one is made by `clone` alone. This does not compile:
@@ -54,10 +62,21 @@ pub struct Book {
     pub mark: u64,
     /// The book id, a part of every signed message.
     pub id: [u8; ID_SIZE],
+    /// What the opening was given.
+    pub setup: Setup,
     /// The clock.
     pub clock: Seconds,
     /// Channels 0 to 63, each used once.
     pub channels: [Channel; CHANNELS],
+}
+
+/// What an opening is given.
+#[must_use]
+#[repr(C)]
+#[derive(Clone, Copy, Debug, PartialEq, Eq, Hash)]
+pub struct Settings {
+    /// The default delay, 3,600 to 2,592,000.
+    pub delay: u32,
 }
 
 /// What a command answers.

@@ -1,11 +1,11 @@
 //! The header's sizes in bytes, and its other numbers.
 
 /// The number of the book's layout, which the mark of every book carries.
-pub const LAYOUT: u32 = 2;
+pub const LAYOUT: u32 = 3;
 /// Channels of a book.
 pub const CHANNELS: usize = 64;
 /// Bytes of a stored book.
-pub const BOOK_SIZE: usize = 11_808;
+pub const BOOK_SIZE: usize = 11_816;
 /// Bytes of a book's id.
 pub const ID_SIZE: usize = 16;
 /// Bytes of an LMS public key: type, one-time type, identifier of 16 and root of 32.
@@ -14,3 +14,11 @@ pub const KEY_SIZE: usize = 56;
 pub const SIGNATURE_SIZE: usize = 1_452;
 /// Bytes of a SHA-256 digest, of a lock and of its secret.
 pub const DIGEST_SIZE: usize = 32;
+/// The shortest delay in seconds.
+pub const SHORTEST_DELAY: u32 = 3_600;
+/// The longest delay in seconds.
+pub const LONGEST_DELAY: u32 = 2_592_000;
+/// What a delay of 0 stands for in a book of the plain opening.
+pub const PLAIN_DELAY: u32 = 86_400;
+/// What a delay of 0 stands for in a new book of the desk.
+pub const DESK_DELAY: u32 = 172_800;

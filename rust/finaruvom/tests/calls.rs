@@ -1,9 +1,9 @@
 //! What the wrapper makes of the library's numbers.
-use finaruvom::command::{SetClock, Settle};
+use finaruvom::command::{Establish, SetClock, Settle};
 use finaruvom::raw::finaruvom_apply;
 use finaruvom::{
     check, hash, Answer, Book, Cause, Cents, Line, Payments, Ran, Reading, Refusal, Seconds,
-    Status, Verdict,
+    Settings, Status, Verdict,
 };
 
 /// A command that sets the clock.
@@ -45,6 +45,67 @@ fn openings() {
     assert_eq!(book.reopen(&[7; 16]), Ok(()));
     assert_eq!(Ok(book), Book::open(&[7; 16]));
     assert_eq!(Book::open(&[7; 17]), Err(Refusal::Length));
+}
+
+#[test]
+fn openings_with_settings() {
+    let open = |length: usize, delay| Book::open_with(&vec![7; length], &Settings { delay });
+    for delay in [3_600, 86_400, 172_800, 2_592_000] {
+        let book = open(16, delay).unwrap();
+        assert_eq!(book.as_raw().setup.delay, Seconds(u64::from(delay)));
+        let mut plain = book.as_raw().clone();
+        plain.setup.delay = Seconds(86_400);
+        assert_eq!(Book::open(&[7; 16]), Ok(Book::from_raw(plain)));
+        assert_eq!(open(15, delay), Err(Refusal::Length));
+    }
+    for delay in [0, 3_599, 2_592_001, u32::MAX] {
+        assert_eq!(open(16, delay), Err(Refusal::Default));
+        assert_eq!(open(15, delay), Err(Refusal::Length));
+    }
+}
+
+#[test]
+fn openings_over_a_book() {
+    let mut book = Book::open_with(&[7; 16], &Settings::desk()).unwrap();
+    assert_eq!(book.apply(&clock(9)).refused(), None);
+    let before = book.clone();
+    let none = Settings { delay: 0 };
+    assert_eq!(book.reopen_with(&[8; 16], &none), Err(Refusal::Default));
+    assert_eq!(book.reopen_with(&[8; 17], &none), Err(Refusal::Length));
+    assert_eq!(book, before);
+    assert_eq!(book.reopen_with(&[8; 16], &Settings::desk()), Ok(()));
+    assert_eq!(book.clock(), Seconds(0));
+    assert_ne!(Ok(book.clone()), Book::open(&[8; 16]));
+    assert_eq!(book.reopen(&[8; 16]), Ok(()));
+    assert_eq!(Ok(book), Book::open(&[8; 16]));
+}
+
+/// The delay of a channel that was established with this one.
+fn established(settings: &Settings, delay: u32) -> u32 {
+    let [customer_key, merchant_key] = [1, 2].map(|byte| {
+        let mut key = [byte; 56];
+        key[..8].copy_from_slice(&[0, 0, 0, 6, 0, 0, 0, 4]);
+        key
+    });
+    let establish = Establish {
+        channel: 1,
+        customer_key,
+        merchant_key,
+        customer: Cents(900),
+        merchant: Cents(100),
+        delay,
+    };
+    let mut book = Book::open_with(&[7; 16], settings).unwrap();
+    assert_eq!(book.apply(&establish.command()).refused(), None);
+    book.as_raw().channels[1].delay
+}
+
+#[test]
+fn defaults() {
+    assert_eq!(established(&Settings::default(), 0), 86_400);
+    assert_eq!(established(&Settings::desk(), 0), 172_800);
+    assert_eq!(established(&Settings { delay: 3_601 }, 0), 3_601);
+    assert_eq!(established(&Settings::desk(), 3_600), 3_600);
 }
 
 #[test]
@@ -120,6 +181,7 @@ fn refusals_by_number() {
         (Refusal::Secret, 10),
         (Refusal::Merchant, 11),
         (Refusal::Customer, 12),
+        (Refusal::Default, 14),
         (Refusal::Unsound, 99),
     ];
     for (refusal, number) in numbers {

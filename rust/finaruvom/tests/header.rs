@@ -1,8 +1,9 @@
-//! The header's numbers are the crate's, and the archive's version is that of both.
+//! The header's numbers are the crate's, and the archive's version and settings are those of both.
 use finaruvom::raw;
 use finaruvom::{
-    version, Cause, Refusal, Status, UnknownNumber, Versions, BOOK_SIZE, CHANNELS, DIGEST_SIZE,
-    ID_SIZE, KEY_SIZE, LAYOUT, SIGNATURE_SIZE,
+    version, Cause, Refusal, Settings, Status, UnknownNumber, Versions, BOOK_SIZE, CHANNELS,
+    DESK_DELAY, DIGEST_SIZE, ID_SIZE, KEY_SIZE, LAYOUT, LONGEST_DELAY, PLAIN_DELAY, SHORTEST_DELAY,
+    SIGNATURE_SIZE,
 };
 use std::collections::BTreeMap;
 use std::fmt::Debug;
@@ -75,9 +76,15 @@ fn definitions() {
         ("KEY_SIZE", KEY_SIZE),
         ("SIGNATURE_SIZE", SIGNATURE_SIZE),
         ("DIGEST_SIZE", DIGEST_SIZE),
+        ("SHORTEST_DELAY", SHORTEST_DELAY as usize),
+        ("LONGEST_DELAY", LONGEST_DELAY as usize),
+        ("PLAIN_DELAY", PLAIN_DELAY as usize),
+        ("DESK_DELAY", DESK_DELAY as usize),
         ("BOOK_SIZE", BOOK_SIZE),
         ("PARTY_SIZE", size_of::<raw::Party>()),
         ("CHANNEL_SIZE", size_of::<raw::Channel>()),
+        ("SETUP_SIZE", size_of::<raw::Setup>()),
+        ("SETTINGS_SIZE", size_of::<raw::Settings>()),
         ("ANSWER_SIZE", size_of::<raw::Answer>()),
         ("LINE_SIZE", size_of::<raw::Line>()),
         ("READING_SIZE", size_of::<raw::Reading>()),
@@ -95,7 +102,7 @@ fn definitions() {
 fn refusals() {
     let mut listed = listed("refusal");
     assert_eq!(listed.remove("Accepted"), Some(0));
-    assert_eq!(listed.len(), 13);
+    assert_eq!(listed.len(), 14);
     assert_eq!(variants(Refusal::number), listed);
     assert_eq!(Refusal::try_from(13), Err(UnknownNumber(13)));
     assert_eq!(UnknownNumber(13).to_string(), "unknown number 13");
@@ -125,4 +132,6 @@ fn archive() {
         layout: LAYOUT,
     };
     assert_eq!(version(), expected);
+    assert_eq!(Settings::default(), Settings { delay: PLAIN_DELAY });
+    assert_eq!(Settings::desk(), Settings { delay: DESK_DELAY });
 }

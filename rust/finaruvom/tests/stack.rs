@@ -1,6 +1,6 @@
 //! Every call of the crate on a thread with the stack that its documentation names.
 use finaruvom::command::{SetClock, Settle};
-use finaruvom::{check, hash, Book, Line, Refusal, Seconds};
+use finaruvom::{check, hash, Book, Line, Refusal, Seconds, Settings};
 use std::thread::Builder;
 
 const STACK: usize = 64 * 1_024;
@@ -9,6 +9,7 @@ const STACK: usize = 64 * 1_024;
 fn calls() -> Result<(), Refusal> {
     let mut book = Book::open(&[7; 16])?;
     book.reopen(&[8; 16])?;
+    book.reopen_with(&[9; 16], &Settings::desk())?;
     let clock = SetClock { time: Seconds(9) };
     assert_eq!(book.apply(&clock.command()).refused(), None);
     let mut lines = [Line::default(); 4];
@@ -21,6 +22,11 @@ fn calls() -> Result<(), Refusal> {
     Ok(())
 }
 
+/// A book made with settings.
+fn opens() -> Result<Seconds, Refusal> {
+    Ok(Book::open_with(&[7; 16], &Settings::desk())?.clock())
+}
+
 fn restores(stored: &[u8]) -> Result<Seconds, Refusal> {
     Ok(Book::from_bytes(stored)?.clock())
 }
@@ -31,6 +37,8 @@ fn small_stacks() {
     let thread = || Builder::new().stack_size(STACK);
     let made = thread().spawn(calls).unwrap();
     assert_eq!(made.join().unwrap(), Ok(()));
+    let opened = thread().spawn(opens).unwrap();
+    assert_eq!(opened.join().unwrap(), Ok(Seconds(0)));
     let restored = thread().spawn(move || restores(&stored)).unwrap();
     assert_eq!(restored.join().unwrap(), Ok(Seconds(0)));
 }

@@ -1,10 +1,12 @@
 //! Books as bytes.
 use finaruvom::command::{Establish, FundCustomer, SetClock};
-use finaruvom::{raw, Book, Cause, Cents, Line, Ran, Refusal, Seconds, Status, BOOK_SIZE};
+use finaruvom::{
+    raw, Book, Cause, Cents, Line, Ran, Refusal, Seconds, Settings, Status, BOOK_SIZE,
+};
 
 const ID: [u8; 16] = *b"the book's id 01";
 /// What every opening writes: the word and the layout.
-const MARK: u64 = u64::from_be_bytes(*b"arbiter\x02");
+const MARK: u64 = u64::from_be_bytes(*b"arbiter\x03");
 
 /// A book that holds these bytes, whatever they are.
 fn holding(bytes: &[u8; BOOK_SIZE]) -> Book {
@@ -82,12 +84,19 @@ fn fresh_over_any_contents() {
     let mut expected = [0; BOOK_SIZE];
     expected[..8].copy_from_slice(&MARK.to_le_bytes());
     expected[8..24].copy_from_slice(&ID);
+    expected[24..32].copy_from_slice(&86_400_u64.to_le_bytes());
     assert!(*fresh().as_bytes() == expected);
     for contents in former() {
         let mut book = holding(&contents);
         assert_eq!(book.reopen(&ID[1..]), Err(Refusal::Length));
         assert!(*book.as_bytes() == contents);
+        let none = Settings { delay: 0 };
+        assert_eq!(book.reopen_with(&ID, &none), Err(Refusal::Default));
+        assert!(*book.as_bytes() == contents);
         assert_eq!(book.reopen(&ID), Ok(()));
+        assert!(*book.as_bytes() == expected);
+        let mut book = holding(&contents);
+        assert_eq!(book.reopen_with(&ID, &Settings::default()), Ok(()));
         assert!(*book.as_bytes() == expected);
     }
 }
@@ -96,6 +105,7 @@ fn fresh_over_any_contents() {
 fn copy_values(from: &raw::Book, to: &mut raw::Book) {
     to.mark = from.mark;
     to.id = from.id;
+    to.setup.delay = from.setup.delay;
     to.clock = from.clock;
     for (from, to) in from.channels.iter().zip(&mut to.channels) {
         to.customer.key = from.customer.key;
@@ -136,13 +146,21 @@ fn wrong_lengths() {
 /// The books that versions wrote, one of each layout.
 #[test]
 fn written_by_versions() {
-    let former = include_bytes!("../../../tests/books/layout-1.bin");
-    assert_eq!(Book::from_bytes(former), Err(Refusal::Unsound));
-    let cut = Book::from_bytes(&former[..BOOK_SIZE]);
-    assert_eq!(cut, Err(Refusal::Unsound));
+    let former: [&[u8]; 2] = [
+        include_bytes!("../../../tests/books/layout-1.bin"),
+        include_bytes!("../../../tests/books/layout-2.bin"),
+    ];
+    for stored in former {
+        assert_eq!(Book::from_bytes(stored), Err(Refusal::Unsound));
+        let mut resized = stored.to_vec();
+        resized.resize(BOOK_SIZE, 0);
+        assert_eq!(Book::from_bytes(&resized), Err(Refusal::Unsound));
+    }
 
-    let book = Book::from_bytes(include_bytes!("../../../tests/books/layout-2.bin")).unwrap();
+    let book = Book::from_bytes(include_bytes!("../../../tests/books/layout-3.bin")).unwrap();
     assert_eq!(book.clock(), Seconds(1_793_671_200));
+    assert_eq!(book.as_raw().setup.delay, Seconds(86_400));
+    assert_eq!(book.as_raw().channels[1].delay, 86_400);
     let closing = book.read(2).unwrap();
     assert_eq!(closing.status, Status::CustomerClosing);
     assert_eq!(closing.deadline, Seconds(1_793_682_000));
@@ -185,7 +203,7 @@ fn closing() -> raw::Book {
 
 #[test]
 fn other_layouts() {
-    let others = (0..=u8::MAX).filter(|layout| *layout != 2);
+    let others = (0..=u8::MAX).filter(|layout| *layout != 3);
     // 0x21 is that of the books which were written before layouts had numbers.
     let marks = others.map(|layout| MARK & !0xff | u64::from(layout));
     for mark in marks.chain([0, u64::MAX, MARK.swap_bytes()]) {
@@ -205,6 +223,11 @@ fn values_out_of_range() {
     for delay in [0, 3_599, 2_592_001, u32::MAX] {
         let mut raw = closing();
         raw.channels[63].delay = delay;
+        refused(&raw);
+    }
+    for default in [0, 3_599, 2_592_001, (1 << 32) + 86_400, 1 << 63, u64::MAX] {
+        let mut raw = closing();
+        raw.setup.delay = Seconds(default);
         refused(&raw);
     }
     let mut raw = closing();

@@ -1,4 +1,6 @@
-//! The book, its channels and when it is sound.
+//! The book, its channels and when it is sound; by document 02 No. 1 an opening gives the default
+//! delay.
+use std::ops::RangeInclusive;
 
 /// Channels of a book.
 pub const CHANNELS: usize = 64;
@@ -8,6 +10,12 @@ pub const LARGEST: u64 = (1 << 63) - 1;
 pub const SHORTEST_DELAY: u32 = 3_600;
 /// The longest delay in seconds.
 pub const LONGEST_DELAY: u32 = 2_592_000;
+/// The delays of a channel, and the defaults of a book.
+pub const DELAYS: RangeInclusive<u32> = SHORTEST_DELAY..=LONGEST_DELAY;
+/// The default of the plain opening.
+pub const PLAIN_DEFAULT: u32 = 86_400;
+/// The default of the desk's new books, of document 02 No. 1.
+pub const DESK_DEFAULT: u32 = 172_800;
 
 /// One side of a channel.
 #[derive(Clone, Copy, Debug, PartialEq, Eq)]
@@ -45,6 +53,8 @@ pub struct Book {
     pub marked: bool,
     /// The book id.
     pub id: [u8; 16],
+    /// What a delay of 0 in 02 stands for, of document 02 No. 1.
+    pub default_delay: u32,
     /// The clock.
     pub clock: u64,
     /// The channels by their numbers.
@@ -70,8 +80,7 @@ impl Channel {
 
     /// Whether a sound book may have this channel.
     fn sound(&self) -> bool {
-        let limits = self.deposits() <= u128::from(LARGEST)
-            && (SHORTEST_DELAY..=LONGEST_DELAY).contains(&self.delay);
+        let limits = self.deposits() <= u128::from(LARGEST) && DELAYS.contains(&self.delay);
         match self.status {
             0 => true,
             1..=4 | 6 => limits,
@@ -89,29 +98,44 @@ impl Party {
 }
 
 impl Book {
-    /// A fresh book with this id.
+    /// A fresh book with this id, as the plain opening leaves it.
     pub fn fresh(id: [u8; 16]) -> Book {
         Book {
             marked: true,
             id,
+            default_delay: PLAIN_DEFAULT,
             clock: 0,
             channels: [Channel::UNUSED; CHANNELS],
         }
     }
 
-    /// Makes the book fresh and answers 0; an id that is not 16 bytes long gives 2.
+    /// The plain opening: makes the book fresh and answers 0; an id that is not 16 bytes long gives
+    /// 2.
     pub fn open(&mut self, id: &[u8]) -> u8 {
-        match id.try_into() {
-            Ok(id) => {
-                *self = Book::fresh(id);
-                0
-            }
-            Err(_) => 2,
-        }
+        self.open_with(id, PLAIN_DEFAULT)
     }
 
-    /// Whether the book is sound.
+    /// The opening of document 02 No. 1, which gives its default: one out of range gives 14, after
+    /// the id.
+    pub fn open_with(&mut self, id: &[u8], default_delay: u32) -> u8 {
+        let Ok(id) = id.try_into() else {
+            return 2;
+        };
+        if !DELAYS.contains(&default_delay) {
+            return 14;
+        }
+        *self = Book {
+            default_delay,
+            ..Book::fresh(id)
+        };
+        0
+    }
+
+    /// Whether the book is sound. The default is a value set at opening, so its limit is kept.
     pub fn sound(&self) -> bool {
-        self.marked && self.clock <= LARGEST && self.channels.iter().all(Channel::sound)
+        self.marked
+            && DELAYS.contains(&self.default_delay)
+            && self.clock <= LARGEST
+            && self.channels.iter().all(Channel::sound)
     }
 }

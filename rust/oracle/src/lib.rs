@@ -1,4 +1,5 @@
-//! Document 01 in plain Rust, written from the paper alone, to compare the library with.
+//! Document 01, and document 02 No. 1 where that says otherwise, in plain Rust, written from the
+//! papers alone, to compare the library with.
 
 mod book;
 mod check;
@@ -15,7 +16,10 @@ mod tree;
 #[cfg(test)]
 mod vectors;
 
-pub use book::{Book, Channel, Party, CHANNELS, LARGEST, LONGEST_DELAY, SHORTEST_DELAY};
+pub use book::{
+    Book, Channel, Party, CHANNELS, DELAYS, DESK_DEFAULT, LARGEST, LONGEST_DELAY, PLAIN_DEFAULT,
+    SHORTEST_DELAY,
+};
 pub use check::{check, Verdict, SIGNATURE, TYPES};
 pub use command::{length, Command, Order};
 pub use journal::{run, statement, Ran};

@@ -1,11 +1,9 @@
-//! A command on a book: checks, then what it changes and pays.
+//! A command on a book: checks, then what it changes and pays. A delay of 0 is read as document 02
+//! No. 1 has it.
 use crate::book::{Book, Channel, Party};
 use crate::check::check;
 use crate::command::{Command, Order};
 use crate::rules::{self, named};
-
-/// What a delay of 0 stands for.
-const DEFAULT_DELAY: u32 = 86_400;
 
 /// What a command answers.
 #[derive(Clone, Copy, Debug, Default, PartialEq, Eq)]
@@ -88,7 +86,7 @@ fn carry_out(book: &mut Book, command: &Command) -> (u64, u64) {
     let channel = &mut book.channels[usize::from(n)];
     let paid = payment(channel, command.order);
     let status = next_status(channel, command.order);
-    store(channel, book.clock, command.order);
+    store(channel, book.clock, book.default_delay, command.order);
     channel.status = status;
     paid
 }
@@ -119,8 +117,9 @@ fn next_status(channel: &Channel, order: Order) -> u8 {
     }
 }
 
-/// Stores the values that a command sets beside the status.
-fn store(channel: &mut Channel, clock: u64, order: Order) {
+/// Stores the values that a command sets beside the status; the rule for a delay of 0 reads the
+/// book's default.
+fn store(channel: &mut Channel, clock: u64, default_delay: u32, order: Order) {
     match order {
         Order::Establish {
             customer,
@@ -137,7 +136,7 @@ fn store(channel: &mut Channel, clock: u64, order: Order) {
                 key: *merchant,
                 deposit: merchant_deposit,
             };
-            channel.delay = if delay == 0 { DEFAULT_DELAY } else { delay };
+            channel.delay = if delay == 0 { default_delay } else { delay };
         }
         Order::CustomerCloses { lock, customer, .. } => {
             channel.lock = *lock;

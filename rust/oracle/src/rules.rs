@@ -1,5 +1,5 @@
 //! The checks 3 to 10 of document 01, each true where it doesn't apply to the command.
-use crate::book::{Book, Channel, CHANNELS, LARGEST, LONGEST_DELAY, SHORTEST_DELAY};
+use crate::book::{Book, Channel, CHANNELS, DELAYS, LARGEST};
 use crate::check::TYPES;
 use crate::command::{Command, Order};
 use crate::sha256::digest;
@@ -67,9 +67,7 @@ fn keys_fit(_: &Book, command: &Command) -> bool {
 
 fn delay_fits(_: &Book, command: &Command) -> bool {
     match command.order {
-        Order::Establish { delay, .. } => {
-            delay == 0 || (SHORTEST_DELAY..=LONGEST_DELAY).contains(&delay)
-        }
+        Order::Establish { delay, .. } => delay == 0 || DELAYS.contains(&delay),
         _ => true,
     }
 }

@@ -1,18 +1,24 @@
 //! Arbitrary books, sound and unsound.
+use super::runs::FORMER;
 use super::World;
 use crate::arbitrary;
+use crate::kinds::DEFAULT_UNSOUND;
 use crate::maker::Maker;
-use crate::pair::{same, Outcome, Pair};
+use crate::pair::{same, Opening, Outcome, Pair};
 use crate::rng::Rng;
 use crate::wallet::Wallet;
 use finaruvom::raw::Book;
+use oracle::PLAIN_DEFAULT;
 
-/// Many books with one command, then some, each with some commands and an opening at last.
+/// Many books with one command, run and applied, then some, each with some commands and openings at
+/// last.
 pub fn case(rng: &mut Rng, world: &mut World) -> Outcome {
     for _ in 0..100 {
         let mut pair = pair(rng, world, arbitrary::touched_book);
         let settle = [0x0a, 0, rng.below(64) as u8];
         pair.stored(&mut world.tally)?;
+        let mut lines = [FORMER; 2];
+        let _ = pair.clone().run(&settle, &mut lines, &mut world.tally)?;
         pair.apply(&settle, &mut world.tally)?;
         pair.read(&mut world.tally)?;
     }
@@ -37,12 +43,15 @@ type Make = fn(&mut Rng, &Wallet) -> Book;
 
 fn pair(rng: &mut Rng, world: &mut World, make: Make) -> Pair {
     let pair = Pair::new(make(rng, &world.wallet));
-    let sound = pair.oracle.sound();
-    world.tally.compared(if sound {
-        "sound books"
-    } else {
-        "unsound books"
-    });
+    let mut mended = pair.oracle.clone();
+    mended.default_delay = PLAIN_DEFAULT;
+    world
+        .tally
+        .compared(match (pair.oracle.sound(), mended.sound()) {
+            (true, _) => "sound books",
+            (false, true) => DEFAULT_UNSOUND,
+            (false, false) => "unsound books",
+        });
     pair
 }
 
@@ -57,11 +66,13 @@ fn commands(pair: &mut Pair, rng: &mut Rng, world: &mut World) -> Outcome {
     Ok(())
 }
 
-/// Openings with ids of wrong lengths, then of the right one.
+/// Openings of any kind with ids of any length, then a plain one.
 fn openings(pair: &mut Pair, rng: &mut Rng, world: &mut World) -> Outcome {
-    for length in [rng.below(16), 17 + rng.below(64), 15, 17, 0, 16] {
-        pair.open(&rng.bytes(length), &mut world.tally)?;
+    for length in [16, rng.below(16), 17 + rng.below(64), 15, 17, 0, 16] {
+        let how = arbitrary::opening(rng);
+        pair.open(&rng.bytes(length), &how, &mut world.tally)?;
     }
+    pair.open(&rng.bytes(16), &Opening::Plain, &mut world.tally)?;
     let fresh = Pair::fresh(pair.oracle.id)?;
     let (library, expected) = (pair.library.as_bytes(), fresh.library.as_bytes());
     same("bytes of an opened book", library, expected)

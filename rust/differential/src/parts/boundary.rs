@@ -13,7 +13,15 @@ use std::mem::size_of;
 
 type Call = fn(&mut Rng, &mut Fenced) -> Outcome;
 
-const CALLS: &[Call] = &[hash, check, open, apply, journal::read, journal::run];
+const CALLS: &[Call] = &[
+    hash,
+    check,
+    open,
+    open_with,
+    apply,
+    journal::read,
+    journal::run,
+];
 
 /// Calls on one book.
 pub fn case(rng: &mut Rng, world: &mut World) -> Outcome {
@@ -117,6 +125,31 @@ fn open(rng: &mut Rng, book: &mut Fenced) -> Outcome {
     let refusal = unsafe { raw::finaruvom_open(book.pointer(), id.pointer(), id.length()) };
     kept("open", &[book], &[&id])?;
     refused_with_2("open", refusal, id.length() != 16)
+}
+
+fn open_with(rng: &mut Rng, book: &mut Fenced) -> Outcome {
+    let id = rng.bytes_of(&[0, 1, 15, 17, 16, 16, 16]);
+    let mut id = lend(rng, id);
+    let settings = raw::Settings {
+        delay: rng.pick(&[0, 3_599, 3_600, 172_800, 2_592_000, 2_592_001, u32::MAX]),
+    };
+    let book_at = book.pointer::<raw::Book>();
+    // SAFETY: the book is writable and the id readable.
+    let (refusal, delay) = unsafe {
+        let refusal = raw::finaruvom_open_with(book_at, id.pointer(), id.length(), settings);
+        (refusal, (*book_at).setup.delay.0)
+    };
+    kept("open_with", &[book], &[&id])?;
+    let expected = match (id.length(), settings.delay) {
+        (16, 3_600..=2_592_000) => 0,
+        (16, _) => 14,
+        _ => 2,
+    };
+    same("open_with", &refusal, &expected)?;
+    match refusal {
+        0 => same("default", &delay, &u64::from(settings.delay)),
+        _ => Ok(()),
+    }
 }
 
 fn apply(rng: &mut Rng, book: &mut Fenced) -> Outcome {

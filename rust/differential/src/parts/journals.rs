@@ -1,5 +1,6 @@
-//! Lists of commands from a fresh book, made by somebody who knows its state.
+//! Lists of commands from a fresh book of any default, made by somebody who knows its state.
 use super::World;
+use crate::arbitrary;
 use crate::kinds::{kind, FILED};
 use crate::maker::Maker;
 use crate::pair::{Outcome, Pair};
@@ -9,6 +10,7 @@ use crate::rng::Rng;
 pub fn case(rng: &mut Rng, world: &mut World) -> Outcome {
     let id = [rng.pick(&[0, 0xff]); 16];
     let mut pair = Pair::fresh(id)?;
+    while pair.open(&id, &arbitrary::opening(rng), &mut world.tally)? != 0 {}
     let (channels, commands) = match rng.below(8) {
         0 => ((0..64).collect(), 400),
         _ => (some_channels(rng), 60),

@@ -11,7 +11,7 @@ use finaruvom::Cents;
 use oracle::Book;
 
 /// What stands in the lines before a run.
-const FORMER: Line = Line {
+pub const FORMER: Line = Line {
     answer: Answer {
         refusal: 0xa500_00a5,
         customer: Cents(0xa5a5_a5a5_a5a5_a5a5),

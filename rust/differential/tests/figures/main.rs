@@ -1,5 +1,6 @@
-//! The paper's figures and the order of its checks, through the library alone.
+//! The papers' figures and the order of the checks, through the library alone.
 mod case;
+mod defaults;
 mod desk;
 mod edges;
 mod faults;

@@ -33,7 +33,8 @@ pub struct Establish {
     pub customer: Cents,
     /// The deposit that the merchant will fund.
     pub merchant: Cents,
-    /// Seconds from a closing to its deadline, 3,600 to 2,592,000; 0 stands for 86,400.
+    /// Seconds from a closing to its deadline, 3,600 to 2,592,000; 0 stands for the default of the
+    /// book.
     pub delay: u32,
 }
 

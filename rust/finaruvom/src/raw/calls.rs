@@ -1,5 +1,5 @@
 //! The functions of the archive.
-use super::{Answer, Book, Found, Line, Ran, Reading, Versions};
+use super::{Answer, Book, Found, Line, Ran, Reading, Settings, Versions};
 
 extern "C" {
     /// The library's version and layout.
@@ -15,7 +15,7 @@ extern "C" {
     ///
     /// Nothing is asked.
     #[must_use]
-    pub fn finaruvom_layout_2() -> u32;
+    pub fn finaruvom_layout_3() -> u32;
 
     /// Writes the digest of at most 65,536 bytes and answers 0; of more, zeros and 2.
     ///
@@ -52,13 +52,42 @@ extern "C" {
     #[must_use]
     pub fn finaruvom_size(first: u8) -> usize;
 
-    /// Makes any lent book fresh and answers 0; an id that is not 16 bytes long gives 2.
+    /// What the plain opening is given.
+    ///
+    /// # Safety
+    ///
+    /// Nothing is asked.
+    pub fn finaruvom_plain_settings() -> Settings;
+
+    /// What the desk gives for a new book.
+    ///
+    /// # Safety
+    ///
+    /// Nothing is asked.
+    pub fn finaruvom_desk_settings() -> Settings;
+
+    /// Makes any lent book fresh, with the plain settings, and answers 0; an id that is not 16
+    /// bytes long gives 2.
     ///
     /// # Safety
     ///
     /// The book is aligned, can be written and overlaps nothing else; `id_n` bytes can be read.
     #[must_use]
     pub fn finaruvom_open(book: *mut Book, id: *const u8, id_n: usize) -> u32;
+
+    /// Makes any lent book fresh, with these settings, and answers 0; an id that is not 16 bytes
+    /// long gives 2, then a default delay out of range 14.
+    ///
+    /// # Safety
+    ///
+    /// The book is aligned, can be written and overlaps nothing else; `id_n` bytes can be read.
+    #[must_use]
+    pub fn finaruvom_open_with(
+        book: *mut Book,
+        id: *const u8,
+        id_n: usize,
+        settings: Settings,
+    ) -> u32;
 
     /// Carries a command out on the lent book, or refuses it.
     ///

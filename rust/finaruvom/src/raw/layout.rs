@@ -1,5 +1,5 @@
 //! Size, alignment and places of all structs that cross the boundary, checked by the compiler.
-use super::{Answer, Book, Channel, Found, Line, Party, Ran, Reading, Versions};
+use super::{Answer, Book, Channel, Found, Line, Party, Ran, Reading, Settings, Setup, Versions};
 use crate::sizes::BOOK_SIZE;
 use core::mem::offset_of;
 
@@ -23,7 +23,9 @@ macro_rules! laid_out {
 laid_out!(Party, 64, 8: key at 0, deposit at 56);
 laid_out!(Channel, 184, 8: customer at 0, merchant at 64, deadline at 128, kept at 136,
     delay at 144, status at 148, lock at 152);
-laid_out!(Book, BOOK_SIZE, 8: mark at 0, id at 8, clock at 24, channels at 32);
+laid_out!(Setup, 8, 8: delay at 0);
+laid_out!(Book, BOOK_SIZE, 8: mark at 0, id at 8, setup at 24, clock at 32, channels at 40);
+laid_out!(Settings, 4, 4: delay at 0);
 laid_out!(Answer, 24, 8: customer at 0, merchant at 8, steps at 16, refusal at 20);
 laid_out!(Line, 24, 8: answer at 0);
 laid_out!(Reading, 72, 8: total at 0, held at 8, deadline at 16, kept at 24, refusal at 32,
