@@ -113,7 +113,7 @@ static void refuse(void) {
     puts("a settle of channel 64, which no book has: refused with 4, and every byte stays");
     settings.delay = FINARUVOM_SHORTEST_DELAY - 1;
     uint32_t refusal = finaruvom_open_with(&book, input, FINARUVOM_ID_SIZE, settings);
-    must(refusal == FINARUVOM_DEFAULT && memcmp(&before, &book, sizeof book) == 0, "a refused opening left a trace");
+    must(refusal == FINARUVOM_SETTINGS_DELAY && memcmp(&before, &book, sizeof book) == 0, "a refused opening left a trace");
     puts("an opening with a default delay of 3,599 seconds: refused with 14, and every byte stays");
 }
 

@@ -74,18 +74,18 @@ extern "C" {
 // Refusals, in the order in which a call makes its checks.
 enum finaruvom_refusal {
     FINARUVOM_ACCEPTED = 0,
-    FINARUVOM_UNSOUND = 99, // the lent book is of no opening or another layout, or a value is out of range
-    FINARUVOM_UNKNOWN = 1,  // no first byte, or it is no command
+    FINARUVOM_UNSOUND = 99,        // the lent book is of no opening or another layout, or a value is out of range
+    FINARUVOM_UNKNOWN = 1,         // no first byte, or it is no command
     FINARUVOM_LENGTH = 2,
-    FINARUVOM_DEFAULT = 14, // the default delay given at an opening is out of range
-    FINARUVOM_TIME = 3,     // before the clock, or above 2^63 - 1
-    FINARUVOM_CHANNEL = 4,  // not below 64
-    FINARUVOM_STATUS = 5,   // the channel's status does not allow it
-    FINARUVOM_KEYS = 6,     // other types, or equal keys
+    FINARUVOM_SETTINGS_DELAY = 14, // the default delay given at an opening is out of range
+    FINARUVOM_TIME = 3,            // before the clock, or above 2^63 - 1
+    FINARUVOM_CHANNEL = 4,         // not below 64
+    FINARUVOM_STATUS = 5,          // the channel's status does not allow it
+    FINARUVOM_KEYS = 6,            // other types, or equal keys
     FINARUVOM_DELAY = 7,
     FINARUVOM_CENTS = 8,
-    FINARUVOM_DEADLINE = 9, // the clock is on its wrong side
-    FINARUVOM_SECRET = 10,  // it does not hash to the lock
+    FINARUVOM_DEADLINE = 9,        // the clock is on its wrong side
+    FINARUVOM_SECRET = 10,         // it does not hash to the lock
     FINARUVOM_MERCHANT = 11,
     FINARUVOM_CUSTOMER = 12,
 };

@@ -55,7 +55,7 @@ static void refused(const char *what) {
     struct finaruvom_ran ran = finaruvom_run(&lent, clock_command, sizeof clock_command, lines, 2);
     must(ran.lines == 1 && lines[0].answer.refusal == FINARUVOM_UNSOUND && memcmp(&lines[1], &unwritten, sizeof unwritten) == 0, what);
     must(finaruvom_open(&lent, id, sizeof id - 1) == FINARUVOM_LENGTH, what);
-    must(finaruvom_open_with(&lent, id, sizeof id, (struct finaruvom_settings){0}) == FINARUVOM_DEFAULT, what);
+    must(finaruvom_open_with(&lent, id, sizeof id, (struct finaruvom_settings){0}) == FINARUVOM_SETTINGS_DELAY, what);
     must(memcmp(&before, &lent, sizeof lent) == 0, what);
 }
 

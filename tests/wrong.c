@@ -50,7 +50,7 @@ uint32_t finaruvom_open_with(struct finaruvom_book *book, const uint8_t *id, siz
 #endif
 #ifdef DEFAULT_FIRST
     if (settings.delay < FINARUVOM_SHORTEST_DELAY)
-        return FINARUVOM_DEFAULT;
+        return FINARUVOM_SETTINGS_DELAY;
 #endif
 #ifdef ZERO_IS_PLAIN
     if (settings.delay == 0)

@@ -157,7 +157,7 @@ static void call_open_with(struct finaruvom_book *book) {
     seal(&id);
     uint32_t refusal = finaruvom_open_with(book, id.bytes, id.n, settings);
     bool fits = settings.delay >= FINARUVOM_SHORTEST_DELAY && settings.delay <= FINARUVOM_LONGEST_DELAY;
-    require(refusal == (id.n != FINARUVOM_ID_SIZE ? FINARUVOM_LENGTH : fits ? FINARUVOM_ACCEPTED : FINARUVOM_DEFAULT), "open_with: refusal");
+    require(refusal == (id.n != FINARUVOM_ID_SIZE ? FINARUVOM_LENGTH : fits ? FINARUVOM_ACCEPTED : FINARUVOM_SETTINGS_DELAY), "open_with: refusal");
     require(refusal != FINARUVOM_ACCEPTED || book->setup.delay == settings.delay, "open_with: default");
     give_back(id);
 }

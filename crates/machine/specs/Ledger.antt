@@ -1,5 +1,5 @@
--- Document 01, "What a closed channel paid" and the mission's third demand: its words, read from the opening, the strings and their
--- answers, and the one claim about the whole list.
+-- Document 01, "What a closed channel paid" and the mission's third demand, with document 02, No. 1: its words, read from the opening, the
+-- strings and their answers, and the one claim about the whole list.
 use mathlib.Core.Path.{_≡_}
 use mathlib.Core.Bool.{Bool, true, false, cond, not, _&&_, _||_}
 use mathlib.Core.List.{List, [], _∷_}

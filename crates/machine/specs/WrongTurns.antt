@@ -66,7 +66,7 @@ module _ (check : List ℕ → List ℕ → List ℕ → Verdict) (hash : List �
 
   pub record WrongTurns : Type 0 where
     pub unsound : (b : Book) → sound b ≡ false → Unsound b
-    -- A book of another layout is, and one whose default is out of range.
+    -- A book of another layout is unsound, and so is one whose default is out of range.
     pub other-layout : (b : Book) (n : ℕ) → b .mark ≡ markOf n → (n ≡ layout → ⊥) → Unsound b
     pub short-default : (b : Book) → b .setup .delay < 3600 → Unsound b
     pub long-default : (b : Book) → 2592000 < b .setup .delay → Unsound b

@@ -1,4 +1,4 @@
--- Document 01, "Journal and due list": what the statement program prints of an input.
+-- Document 01, "Journal and due list": what the statement program prints of an input; document 02, No. 1: its opening is the plain one.
 use Prim.Native.Nat.{ℕ, _≤_}
 use mathlib.Core.Path.{_≡_}
 use mathlib.Core.Bool.{cond}

@@ -97,12 +97,8 @@ pub fn opening(rng: &mut Rng) -> Opening {
         0 => return Opening::Plain,
         1 => Settings::default(),
         2 => Settings::desk(),
-        3 => Settings {
-            delay: default_in_range(rng),
-        },
-        _ => Settings {
-            delay: rng.pick(&DELAYS),
-        },
+        3 => Settings::default().with_delay(default_in_range(rng)),
+        _ => Settings::default().with_delay(rng.pick(&DELAYS)),
     })
 }
 

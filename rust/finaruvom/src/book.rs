@@ -68,17 +68,17 @@ impl Book {
     /// use finaruvom::{Book, Refusal, Settings};
     ///
     /// let book = Book::open_with(&[7; 16], &Settings::desk())?;
-    /// assert_eq!(book.as_raw().setup.delay.0, 172_800);
-    /// let hour = Settings { delay: 3_600 };
+    /// assert_eq!(book.default_delay().0, 172_800);
+    /// let hour = Settings::default().with_delay(3_600);
     /// assert!(Book::open_with(&[7; 16], &hour).is_ok());
-    /// let less = Settings { delay: 3_599 };
-    /// assert_eq!(Book::open_with(&[7; 16], &less), Err(Refusal::Default));
+    /// let less = Settings::default().with_delay(3_599);
+    /// assert_eq!(Book::open_with(&[7; 16], &less), Err(Refusal::SettingsDelay));
     /// # Ok::<(), Refusal>(())
     /// ```
     ///
     /// # Errors
     ///
-    /// [`Refusal::Length`] where the id is not [`ID_SIZE`] bytes long, then [`Refusal::Default`]
+    /// [`Refusal::Length`] where the id is not [`ID_SIZE`] bytes long, then [`Refusal::SettingsDelay`]
     /// where the default delay is not 3,600 to 2,592,000.
     pub fn open_with(id: &[u8], settings: &Settings) -> Result<Book, Refusal> {
         let mut book = Book::from_raw(UNOPENED);
@@ -135,6 +135,12 @@ impl Book {
     #[must_use]
     pub const fn id(&self) -> &[u8; ID_SIZE] {
         &self.raw.id
+    }
+
+    /// What a delay of 0 stands for in this book. A journal does not carry it: record it beside.
+    #[must_use]
+    pub const fn default_delay(&self) -> Seconds {
+        self.raw.setup.delay
     }
 
     /// The clock.

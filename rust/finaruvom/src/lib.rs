@@ -24,7 +24,7 @@
 //! `examples/life.rs` goes through the life of three channels, with real signatures.
 //!
 //! The crate does without the standard library and allocates nothing. A program that has no C
-//! library brings `memcpy` and `memset` for the archive. For every call 64 KiB of stack are
+//! library brings `memcpy` and `memset` for the archive. For every call 96 KiB of stack are
 //! enough where the program is optimised, the book that it makes included.
 #![no_std]
 #![deny(missing_docs)]

@@ -62,7 +62,7 @@ pub struct Book {
     pub mark: u64,
     /// The book id, a part of every signed message.
     pub id: [u8; ID_SIZE],
-    /// What the opening was given.
+    /// What the book keeps of its opening.
     pub setup: Setup,
     /// The clock.
     pub clock: Seconds,

@@ -26,7 +26,7 @@ numbered! {
         Secret = 10: "the secret does not hash to the lock",
         Merchant = 11: "the merchant's signature is not good",
         Customer = 12: "the customer's signature is not good",
-        Default = 14: "the default delay of the opening is not 3,600 to 2,592,000",
+        SettingsDelay = 14: "the default delay of the settings is not 3,600 to 2,592,000",
         Unsound = 99: "the book is of no opening or another layout, or a value is out of range",
     }
 }

@@ -1,15 +1,19 @@
 //! What an opening is given.
 use crate::raw;
 
-/// What an opening is given. The default is that of the plain opening.
+/// What an opening is given: [`Settings::default`] has what the plain opening has,
+/// [`Settings::desk`] what the desk gives for a new book. Later versions may have more fields, so
+/// start from one of these.
 ///
 /// ```
 /// use finaruvom::{Settings, DESK_DELAY, PLAIN_DELAY};
 ///
 /// assert_eq!(Settings::default().delay, PLAIN_DELAY);
 /// assert_eq!(Settings::desk().delay, DESK_DELAY);
+/// assert_eq!(Settings::desk().with_delay(3_600).delay, 3_600);
 /// ```
 #[must_use]
+#[non_exhaustive]
 #[derive(Clone, Debug, PartialEq, Eq, Hash)]
 pub struct Settings {
     /// Seconds that a delay of 0 in [`Establish`](crate::command::Establish) stands for, 3,600 to
@@ -22,6 +26,12 @@ impl Settings {
     pub fn desk() -> Settings {
         // SAFETY: nothing is lent.
         Settings::of_library(unsafe { raw::finaruvom_desk_settings() })
+    }
+
+    /// The same with another default delay.
+    pub const fn with_delay(mut self, delay: u32) -> Settings {
+        self.delay = delay;
+        self
     }
 
     /// Settings of the library.

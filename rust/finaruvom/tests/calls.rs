@@ -1,4 +1,6 @@
 //! What the wrapper makes of the library's numbers.
+mod parties;
+
 use finaruvom::command::{Establish, SetClock, Settle};
 use finaruvom::raw::finaruvom_apply;
 use finaruvom::{
@@ -49,17 +51,19 @@ fn openings() {
 
 #[test]
 fn openings_with_settings() {
-    let open = |length: usize, delay| Book::open_with(&vec![7; length], &Settings { delay });
+    let open = |length: usize, delay| {
+        Book::open_with(&vec![7; length], &Settings::default().with_delay(delay))
+    };
     for delay in [3_600, 86_400, 172_800, 2_592_000] {
         let book = open(16, delay).unwrap();
-        assert_eq!(book.as_raw().setup.delay, Seconds(u64::from(delay)));
+        assert_eq!(book.default_delay(), Seconds(u64::from(delay)));
         let mut plain = book.as_raw().clone();
         plain.setup.delay = Seconds(86_400);
         assert_eq!(Book::open(&[7; 16]), Ok(Book::from_raw(plain)));
         assert_eq!(open(15, delay), Err(Refusal::Length));
     }
     for delay in [0, 3_599, 2_592_001, u32::MAX] {
-        assert_eq!(open(16, delay), Err(Refusal::Default));
+        assert_eq!(open(16, delay), Err(Refusal::SettingsDelay));
         assert_eq!(open(15, delay), Err(Refusal::Length));
     }
 }
@@ -69,8 +73,11 @@ fn openings_over_a_book() {
     let mut book = Book::open_with(&[7; 16], &Settings::desk()).unwrap();
     assert_eq!(book.apply(&clock(9)).refused(), None);
     let before = book.clone();
-    let none = Settings { delay: 0 };
-    assert_eq!(book.reopen_with(&[8; 16], &none), Err(Refusal::Default));
+    let none = Settings::default().with_delay(0);
+    assert_eq!(
+        book.reopen_with(&[8; 16], &none),
+        Err(Refusal::SettingsDelay)
+    );
     assert_eq!(book.reopen_with(&[8; 17], &none), Err(Refusal::Length));
     assert_eq!(book, before);
     assert_eq!(book.reopen_with(&[8; 16], &Settings::desk()), Ok(()));
@@ -82,11 +89,7 @@ fn openings_over_a_book() {
 
 /// The delay of a channel that was established with this one.
 fn established(settings: &Settings, delay: u32) -> u32 {
-    let [customer_key, merchant_key] = [1, 2].map(|byte| {
-        let mut key = [byte; 56];
-        key[..8].copy_from_slice(&[0, 0, 0, 6, 0, 0, 0, 4]);
-        key
-    });
+    let [customer_key, merchant_key] = parties::keys();
     let establish = Establish {
         channel: 1,
         customer_key,
@@ -104,7 +107,10 @@ fn established(settings: &Settings, delay: u32) -> u32 {
 fn defaults() {
     assert_eq!(established(&Settings::default(), 0), 86_400);
     assert_eq!(established(&Settings::desk(), 0), 172_800);
-    assert_eq!(established(&Settings { delay: 3_601 }, 0), 3_601);
+    assert_eq!(
+        established(&Settings::default().with_delay(3_601), 0),
+        3_601
+    );
     assert_eq!(established(&Settings::desk(), 3_600), 3_600);
 }
 
@@ -181,7 +187,7 @@ fn refusals_by_number() {
         (Refusal::Secret, 10),
         (Refusal::Merchant, 11),
         (Refusal::Customer, 12),
-        (Refusal::Default, 14),
+        (Refusal::SettingsDelay, 14),
         (Refusal::Unsound, 99),
     ];
     for (refusal, number) in numbers {

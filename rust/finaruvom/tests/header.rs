@@ -132,6 +132,6 @@ fn archive() {
         layout: LAYOUT,
     };
     assert_eq!(version(), expected);
-    assert_eq!(Settings::default(), Settings { delay: PLAIN_DELAY });
-    assert_eq!(Settings::desk(), Settings { delay: DESK_DELAY });
+    assert_eq!(Settings::default().delay, PLAIN_DELAY);
+    assert_eq!(Settings::desk().delay, DESK_DELAY);
 }

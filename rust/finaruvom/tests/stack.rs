@@ -3,7 +3,7 @@ use finaruvom::command::{SetClock, Settle};
 use finaruvom::{check, hash, Book, Line, Refusal, Seconds, Settings};
 use std::thread::Builder;
 
-const STACK: usize = 64 * 1_024;
+const STACK: usize = 96 * 1_024;
 
 /// Everything that makes, changes or reads a book.
 fn calls() -> Result<(), Refusal> {

@@ -1,4 +1,6 @@
 //! Books as bytes.
+mod parties;
+
 use finaruvom::command::{Establish, FundCustomer, SetClock};
 use finaruvom::{
     raw, Book, Cause, Cents, Line, Ran, Refusal, Seconds, Settings, Status, BOOK_SIZE,
@@ -38,11 +40,7 @@ fn fresh() -> Book {
 
 /// A book with a channel in use.
 fn used() -> Book {
-    let [customer_key, merchant_key] = [1, 2].map(|byte| {
-        let mut key = [byte; 56];
-        key[..8].copy_from_slice(&[0, 0, 0, 6, 0, 0, 0, 4]);
-        key
-    });
+    let [customer_key, merchant_key] = parties::keys();
     let establish = Establish {
         channel: 63,
         customer_key,
@@ -90,8 +88,8 @@ fn fresh_over_any_contents() {
         let mut book = holding(&contents);
         assert_eq!(book.reopen(&ID[1..]), Err(Refusal::Length));
         assert!(*book.as_bytes() == contents);
-        let none = Settings { delay: 0 };
-        assert_eq!(book.reopen_with(&ID, &none), Err(Refusal::Default));
+        let none = Settings::default().with_delay(0);
+        assert_eq!(book.reopen_with(&ID, &none), Err(Refusal::SettingsDelay));
         assert!(*book.as_bytes() == contents);
         assert_eq!(book.reopen(&ID), Ok(()));
         assert!(*book.as_bytes() == expected);
@@ -159,7 +157,7 @@ fn written_by_versions() {
 
     let book = Book::from_bytes(include_bytes!("../../../tests/books/layout-3.bin")).unwrap();
     assert_eq!(book.clock(), Seconds(1_793_671_200));
-    assert_eq!(book.as_raw().setup.delay, Seconds(86_400));
+    assert_eq!(book.default_delay(), Seconds(86_400));
     assert_eq!(book.as_raw().channels[1].delay, 86_400);
     let closing = book.read(2).unwrap();
     assert_eq!(closing.status, Status::CustomerClosing);

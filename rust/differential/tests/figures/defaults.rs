@@ -10,7 +10,7 @@ fn desk(book: Book) -> Desk {
 
 /// A book of the desk's, in which a delay of 0 stands for 172,800.
 fn new_book() -> Book {
-    Book::open_with(&ID, &Settings { delay: 172_800 }).unwrap()
+    Book::open_with(&ID, &Settings::default().with_delay(172_800)).unwrap()
 }
 
 /// The answer to an 02 with this delay.
@@ -50,7 +50,7 @@ fn given_delays_stay() {
     assert_eq!(deadline(plain(), 172_800), Seconds(173_800));
     assert_eq!(deadline(new_book(), 3_600), Seconds(4_600));
     assert_eq!(deadline(new_book(), 86_400), Seconds(87_400));
-    let longest = Book::open_with(&ID, &Settings { delay: 2_592_000 });
+    let longest = Book::open_with(&ID, &Settings::default().with_delay(2_592_000));
     assert_eq!(deadline(longest.unwrap(), 0), Seconds(2_593_000));
 }
 
@@ -79,10 +79,13 @@ fn operands_out_of_range() {
 fn opened(id: &[u8], delay: u32) -> Result<u64, Refusal> {
     let mut book = closing(new_book(), 0).book;
     let before = book.clone();
-    let opened = book.reopen_with(id, &Settings { delay });
+    let opened = book.reopen_with(id, &Settings::default().with_delay(delay));
     let setup = book.as_raw().setup;
     match opened {
-        Ok(()) => assert_eq!(Book::open_with(id, &Settings { delay }), Ok(book)),
+        Ok(()) => assert_eq!(
+            Book::open_with(id, &Settings::default().with_delay(delay)),
+            Ok(book)
+        ),
         Err(_) => assert_eq!(book, before),
     }
     opened.map(|()| setup.delay.0)
@@ -95,9 +98,9 @@ fn openings() {
         assert_eq!(opened(&ID[1..], delay), Err(Refusal::Length));
     }
     for delay in [3_599, 2_592_001, 0, u32::MAX] {
-        assert_eq!(opened(&ID, delay), Err(Refusal::Default));
+        assert_eq!(opened(&ID, delay), Err(Refusal::SettingsDelay));
         assert_eq!(opened(&ID[1..], delay), Err(Refusal::Length));
         assert_eq!(opened(&[1; 17], delay), Err(Refusal::Length));
     }
-    assert_eq!(Refusal::Default.number(), 14);
+    assert_eq!(Refusal::SettingsDelay.number(), 14);
 }
