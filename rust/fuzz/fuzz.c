@@ -141,8 +141,10 @@ static void call_check(void) {
 static void call_open(struct finaruvom_book *book) {
     struct buffer id = lend(below(4) == 0 ? below(40) : FINARUVOM_ID_SIZE);
     seal(&id);
+    struct finaruvom_book before = *book;
     uint32_t refusal = finaruvom_open(book, id.bytes, id.n);
     require(refusal == (id.n == FINARUVOM_ID_SIZE ? FINARUVOM_ACCEPTED : FINARUVOM_LENGTH), "open: refusal");
+    require(refusal == FINARUVOM_ACCEPTED || memcmp(&before, book, sizeof before) == 0, "open: refused, and the book changed");
     give_back(id);
 }
 
@@ -155,10 +157,12 @@ static void call_open_with(struct finaruvom_book *book) {
         settings.delay = below(4) == 0 ? (uint32_t)number() : delays[below(7)];
     }
     seal(&id);
+    struct finaruvom_book before = *book;
     uint32_t refusal = finaruvom_open_with(book, id.bytes, id.n, settings);
     bool fits = settings.delay >= FINARUVOM_SHORTEST_DELAY && settings.delay <= FINARUVOM_LONGEST_DELAY;
     require(refusal == (id.n != FINARUVOM_ID_SIZE ? FINARUVOM_LENGTH : fits ? FINARUVOM_ACCEPTED : FINARUVOM_SETTINGS_DELAY), "open_with: refusal");
     require(refusal != FINARUVOM_ACCEPTED || book->setup.delay == settings.delay, "open_with: default");
+    require(refusal == FINARUVOM_ACCEPTED || memcmp(&before, book, sizeof before) == 0, "open_with: refused, and the book changed");
     give_back(id);
 }
 

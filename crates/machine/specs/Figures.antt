@@ -47,8 +47,8 @@ good steps = record { good = true; steps = steps }
 -- With any keys and lock, any deadline d and kept part x before a closing, any step counts v and w, and any id and setup of the book.
 module _ (key lock id : List ℕ) (d x v w : ℕ) (setup : Setup) where
   -- A book whose clock shows this time.
-  abbrev pub clocked : ℕ → Context
-  clocked t = record { id = id; clock = seconds t; setup = setup }
+  abbrev pub showing : ℕ → Context
+  showing t = record { id = id; clock = seconds t; setup = setup }
 
   -- D_c 900, D_b 100, delay 3,600.
   abbrev pub example : ℕ → ℕ → ℕ → Channel
@@ -69,10 +69,10 @@ module _ (key lock id : List ℕ) (d x v w : ℕ) (setup : Setup) where
     pub agrees-600 : by (mutualClose 400 600 (good v) (good w)) (example 3 d x) ≡ row 0 400 600 6 0 0
     pub agrees-601 : by (mutualClose 400 601 (good v) (good w)) (example 3 d x) ≡ row 8 0 0 3 1000 0
     pub wraps : by (mutualClose (2 ^ 64 - 1) 1001 (good v) (good w)) (example 3 d x) ≡ row 8 0 0 3 1000 0
-    pub closes-at-1000 : by (customerClose (clocked 1000) lock 700 300 (good v) (good w)) (example 3 d x) ≡ row 0 0 300 5 700 4600
-    pub disputes-at-4599 : by (dispute (clocked 4599) lock (good v)) (example 5 4600 700) ≡ row 0 0 700 6 0 0
-    pub disputes-at-4600 : by (dispute (clocked 4600) lock (good v)) (example 5 4600 700) ≡ row 9 0 0 5 700 4600
-    pub settles-at-4599 : by (settle (clocked 4599)) (example 5 4600 700) ≡ row 9 0 0 5 700 4600
-    pub settles-at-4600 : by (settle (clocked 4600)) (example 5 4600 700) ≡ row 0 700 0 6 0 0
+    pub closes-at-1000 : by (customerClose (showing 1000) lock 700 300 (good v) (good w)) (example 3 d x) ≡ row 0 0 300 5 700 4600
+    pub disputes-at-4599 : by (dispute (showing 4599) lock (good v)) (example 5 4600 700) ≡ row 0 0 700 6 0 0
+    pub disputes-at-4600 : by (dispute (showing 4600) lock (good v)) (example 5 4600 700) ≡ row 9 0 0 5 700 4600
+    pub settles-at-4599 : by (settle (showing 4599)) (example 5 4600 700) ≡ row 9 0 0 5 700 4600
+    pub settles-at-4600 : by (settle (showing 4600)) (example 5 4600 700) ≡ row 0 700 0 6 0 0
     pub steps-of-FF : stepCount (replicate 32 255) ≡ 510
     pub steps-of-00 : stepCount (replicate 32 0) ≡ 8415

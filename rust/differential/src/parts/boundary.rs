@@ -71,6 +71,16 @@ fn refused_with_2(call: &str, refusal: u32, wrong: bool) -> Outcome {
     same(call, &refusal, &(2 * u32::from(wrong)))
 }
 
+/// Whether an opening that was refused left every byte of the book.
+fn stays(call: &str, refusal: u32, before: &[u8], book: &Fenced) -> Outcome {
+    match refusal == 0 || book.bytes() == before {
+        true => Ok(()),
+        false => Err(format!(
+            "{call}: refused with {refusal}, and the book changed"
+        )),
+    }
+}
+
 fn hash(rng: &mut Rng, _: &mut Fenced) -> Outcome {
     let bytes = rng.bytes_of(&[0, 1, 55, 56, 64, 65, 1_000, 65_536, 65_537]);
     let mut bytes = lend(rng, bytes);
@@ -121,9 +131,11 @@ fn check(rng: &mut Rng, _: &mut Fenced) -> Outcome {
 fn open(rng: &mut Rng, book: &mut Fenced) -> Outcome {
     let id = rng.bytes_of(&[0, 1, 15, 17, 16]);
     let mut id = lend(rng, id);
+    let before = book.bytes().to_vec();
     // SAFETY: the book is writable and the id readable.
     let refusal = unsafe { raw::finaruvom_open(book.pointer(), id.pointer(), id.length()) };
     kept("open", &[book], &[&id])?;
+    stays("open", refusal, &before, book)?;
     refused_with_2("open", refusal, id.length() != 16)
 }
 
@@ -133,6 +145,7 @@ fn open_with(rng: &mut Rng, book: &mut Fenced) -> Outcome {
     let settings = raw::Settings {
         delay: rng.pick(&[0, 3_599, 3_600, 172_800, 2_592_000, 2_592_001, u32::MAX]),
     };
+    let before = book.bytes().to_vec();
     let book_at = book.pointer::<raw::Book>();
     // SAFETY: the book is writable and the id readable.
     let (refusal, delay) = unsafe {
@@ -140,6 +153,7 @@ fn open_with(rng: &mut Rng, book: &mut Fenced) -> Outcome {
         (refusal, (*book_at).setup.delay.0)
     };
     kept("open_with", &[book], &[&id])?;
+    stays("open_with", refusal, &before, book)?;
     let expected = match (id.length(), settings.delay) {
         (16, 3_600..=2_592_000) => 0,
         (16, _) => 14,
