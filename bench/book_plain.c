@@ -1,4 +1,4 @@
-// Written from documents 01 and 02 (No. 1), as a program in C would have it: no copy of the book.
+// Written from documents 01 and 02 (No. 1 and 2), as a program in C would have it: no copy of the book.
 #include "book.h"
 #include <string.h>
 
@@ -41,14 +41,14 @@ static uint32_t establish(struct finaruvom_channel *ch, const uint8_t *s, uint64
         return 6;
     if (delay != 0 && !delay_fits(delay))
         return 7;
-    if (c == 0 || c > MOST || b > MOST - c)
+    if (c > MOST || b > MOST - c || c + b == 0)
         return 8;
     memcpy(ch->customer.key, s + 3, 56);
     memcpy(ch->merchant.key, s + 59, 56);
     ch->customer.deposit = c;
     ch->merchant.deposit = b;
     ch->delay = (uint32_t)(delay ? delay : default_delay);
-    ch->status = 1;
+    ch->status = c == 0 ? 2 : 1;
     return 0;
 }
 

@@ -34,7 +34,7 @@ extern "C" {
 
 // The version that this header belongs to, and the number of the book's layout, which the mark of every book carries.
 #define FINARUVOM_VERSION_MAJOR 0
-#define FINARUVOM_VERSION_MINOR 10
+#define FINARUVOM_VERSION_MINOR 11
 #define FINARUVOM_VERSION_PATCH 0
 #define FINARUVOM_LAYOUT 3
 
@@ -83,7 +83,7 @@ enum finaruvom_refusal {
     FINARUVOM_STATUS = 5,          // the channel's status does not allow it
     FINARUVOM_KEYS = 6,            // other types, or equal keys
     FINARUVOM_DELAY = 7,
-    FINARUVOM_CENTS = 8,
+    FINARUVOM_CENTS = 8,           // the two deposits are not 1 to 2^63 - 1 together, a funding is not the deposit, or a closing's parts are not the total
     FINARUVOM_DEADLINE = 9,        // the clock is on its wrong side
     FINARUVOM_SECRET = 10,         // it does not hash to the lock
     FINARUVOM_MERCHANT = 11,
@@ -92,8 +92,8 @@ enum finaruvom_refusal {
 
 enum finaruvom_status {
     FINARUVOM_UNUSED = 0,
-    FINARUVOM_AWAITING_CUSTOMER = 1,
-    FINARUVOM_AWAITING_MERCHANT = 2,
+    FINARUVOM_AWAITING_CUSTOMER = 1, // the customer's deposit is still to come
+    FINARUVOM_AWAITING_MERCHANT = 2, // after the customer's funding, or at once after an 02 in which the customer deposits nothing
     FINARUVOM_OPEN = 3,
     FINARUVOM_MERCHANT_CLOSING = 4,
     FINARUVOM_CUSTOMER_CLOSING = 5,

@@ -97,7 +97,8 @@ static struct buffer command(void) {
         memcpy(string.bytes + 3, "\0\0\0\6\0\0\0\4", 8);
         memcpy(string.bytes + 59, "\0\0\0\6\0\0\0\4", 8);
         memset(string.bytes + 115, 0, n - 115);
-        string.bytes[n > 122 ? 122 : n - 1] = 9;
+        size_t deposit = below(2) == 0 ? 122 : 130; // the customer's alone, or the merchant's
+        string.bytes[n > deposit ? deposit : n - 1] = 9;
     }
     return string;
 }

@@ -15,11 +15,11 @@ ghost use Rattle.machine.specs.Rules.{fundCustomer, fundMerchant, reclaim};
 ghost use Rattle.machine.specs.Machine.{ruling, verdict};
 ghost use Rattle.machine.specs.Real.{lmsVerdict};
 
-// Open where the merchant owes nothing.
-fn status_funded(merchant: Cents) -> u32
-    ensures { λ r. ⌜ r ≡ cond (eqb (merchant .0) 0) 3 2 ⌝ }
+// The status that awaits a deposit, or the one past it where the deposit is 0.
+pub fn status_awaiting(deposit: Cents, awaiting: u32, past: u32) -> u32
+    ensures { λ r. ⌜ r ≡ cond (eqb (deposit .0) 0) past awaiting ⌝ }
 {
-    if merchant.0 == 0 { 3 } else { 2 }
+    if deposit.0 == 0 { past } else { awaiting }
 }
 
 pub fn fund_customer(ch: Channel, paid: Cents) -> Ruled
@@ -28,7 +28,7 @@ pub fn fund_customer(ch: Channel, paid: Cents) -> Ruled
     let j = tested(unjudged(), 5, ch.status == 1);
     let j = tested(j, 8, paid.0 == ch.customer.deposit.0);
     let mut after = ch;
-    after.status = status_funded(ch.merchant.deposit);
+    after.status = status_awaiting(ch.merchant.deposit, 2, 3);
     ruled(j, ch, after, Cents(0), Cents(0))
 }
 

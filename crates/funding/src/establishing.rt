@@ -1,4 +1,5 @@
 // 02: a channel's two sides, their keys and agreed deposits, and its delay.
+use crate::deposits::status_awaiting;
 use checks::ruled;
 use checks::tested;
 use checks::unjudged;
@@ -19,7 +20,7 @@ ghost use mathlib.Core.Bool.{true};
 ghost use lib.ListN.{length};
 ghost use Rattle.machine.specs.Format.{delay};
 ghost use Rattle.machine.specs.Book.{ranged, soundSetup};
-ghost use Rattle.machine.specs.Rules.{keyed, delayed, establish};
+ghost use Rattle.machine.specs.Rules.{keyed, delayed, depositsFit, establish};
 ghost use Rattle.machine.specs.Machine.{customerOf, merchantOf, ruling};
 
 // Both keys carry types 6 and 4, and they differ.
@@ -37,19 +38,25 @@ fn delay_or_default(default: u64, delay: u32) -> u32
     if delay == 0 { default as u32 } else { delay }
 }
 
+// The total is 1 to 2^63 - 1: one side may deposit nothing, but not both.
+fn deposits_fit(customer: Cents, merchant: Cents) -> bool
+    ensures { λ r. ⌜ r ≡ depositsFit (customer .0) (merchant .0) ⌝ }
+{
+    ((1 <= customer.0) | (1 <= merchant.0)) & total_fits(customer, merchant)
+}
+
 fn establish(ch: Channel, at: Context, customer: Party, merchant: Party, delay: u32) -> Ruled
     requires { ⌜ soundSetup (at .setup) ≡ true ⌝ }
     ensures { λ r. ⌜ r ≡ ruling ch (establish at customer merchant delay ch) ⌝ }
 {
     let customer_key = customer.key;
     let merchant_key = merchant.key;
-    let fits = total_fits(customer.deposit, merchant.deposit);
     let j = tested(unjudged(), 5, ch.status == 0);
     let j = tested(j, 6, keys_fit(customer_key, merchant_key));
     let j = tested(j, 7, (delay == 0) | delay_fits(delay as u64));
-    let j = tested(j, 8, (1 <= customer.deposit.0) & fits);
+    let j = tested(j, 8, deposits_fit(customer.deposit, merchant.deposit));
     let mut after = ch;
-    after.status = 1;
+    after.status = status_awaiting(customer.deposit, 1, 2);
     after.customer = customer;
     after.merchant = merchant;
     after.delay = delay_or_default(at.setup.delay, delay);

@@ -12,7 +12,7 @@ use Rattle.machine.specs.Checks.{ask}
 use Rattle.machine.specs.Opening.{blankBook, fresh, opening}
 use Rattle.machine.specs.Rules.{delayed, keyed, establish, fundCustomer, fundMerchant, reclaim, mutualClose, customerClose, merchantClose, dispute, settle}
 use Rattle.machine.specs.Machine.{answer, concluded, ruling, verdict, plan, step}
-use Rattle.machine.specs.Ledger.{Paid, nothing, paidBy, entryAt, clock, strings, sum, opcodes, member, tally, eventOf, paid, Timely, Disputes, after, Accounted}
+use Rattle.machine.specs.Ledger.{Paid, nothing, paidBy, entryAt, clock, strings, sum, opcodes, member, tally, eventOf, paid, after, Accounted}
 use Rattle.machine.proofs.Reached.{yes, plain, opens, list, disputes, standing}
 use Rattle.machine.proofs.ThirdDemand.{third-demand}
 
@@ -27,33 +27,41 @@ accounted l n p = third-demand yes plain blankBook opens refl l n p
 abbrev pays : ℕ → ℕ → Paid
 pays customer merchant = record { customer = customer; merchant = merchant }
 
--- In the last second the dispute of channel 5 is accepted. The equation and the splits with their figures: channel 5 before and after the
--- dispute, and channel 2. The refused 03 and the first 01 pay nothing.
+-- In the last second the disputes of channels 5 and 7 are accepted. The equation and the splits with their figures: channels 5 and 7, the
+-- merchant's alone, before and after the dispute, channel 2, and channel 8, reclaimed without a deposit. The refused 03 and the first 01 pay
+-- nothing.
 record Applied : Type 0 where
-  accepted : (step yes plain ((standing list) .book) disputes) .answer .refusal ≡ 0
+  accepted : (step yes plain ((standing list) .book) (disputes 5)) .answer .refusal ≡ 0
   closing : 1000 ≡ 700 + 0 + 300
   over : 1000 ≡ 0 + 0 + 1000
   agreed : 1000 ≡ 0 + 400 + 600
-  disputed : paid (strings 5 ((standing (list ++ disputes ∷ [])) .history)) ≡ pays 0 1000
+  disputed : paid (strings 5 ((standing (list ++ disputes 5 ∷ [])) .history)) ≡ pays 0 1000
   split : paid (strings 2 ((standing list) .history)) ≡ pays 400 600
-  refused : paidBy ((entryAt ((standing list) .history) 5) .answer) ≡ nothing
-  timed : paidBy ((entryAt ((standing list) .history) 10) .answer) ≡ nothing
+  credited : (step yes plain ((standing list) .book) (disputes 7)) .answer .refusal ≡ 0
+  credit-closing : 100 ≡ 70 + 0 + 30
+  credit-disputed : paid (strings 7 ((standing (list ++ disputes 7 ∷ [])) .history)) ≡ pays 0 100
+  reclaimed : paid (strings 8 ((standing list) .history)) ≡ pays 0 0
+  refused : paidBy ((entryAt ((standing list) .history) 10) .answer) ≡ nothing
+  timed : paidBy ((entryAt ((standing list) .history) 15) .answer) ≡ nothing
 
 applied : Applied
 unfolding yes plain standing u16At u32At u64At same size message total held soundChannel sound fresh readChannel reading ask delayed keyed establish fundCustomer fundMerchant reclaim mutualClose customerClose merchantClose dispute settle answer concluded ruling verdict plan step after clock strings opcodes member eventOf sum
 applied =
     let before = accounted list 5 (omega arith) in
-    let after = accounted (list ++ disputes ∷ []) 5 (omega arith) in
+    let after = accounted (list ++ disputes 5 ∷ []) 5 (omega arith) in
     let both = accounted list 2 (omega arith) in
-    let timely : Timely opens (strings 5 ((standing list) .history)) (clock ((standing list) .history)) = record { closing = refl; undisputed = refl; unsettled = refl; early = omega arith } in
-    let disputing : Disputes yes plain opens 5 (strings 5 ((standing list) .history)) disputes = record { code = refl; whole = refl; named = refl; opens = refl; good = refl } in
+    let credit = accounted list 7 (omega arith) in
     record {
-      accepted = before .dispute timely disputes disputing;
+      accepted = before .dispute (record { closing = refl; undisputed = refl; unsettled = refl; early = omega arith }) (disputes 5) (record { code = refl; whole = refl; named = refl; opens = refl; good = refl });
       closing = before .conserved;
       over = after .conserved;
       agreed = both .conserved;
       disputed = after .disputed refl;
       split = both .splits refl;
-      refused = before .elsewhere 5 (omega arith) refl;
-      timed = before .elsewhere 10 (omega arith) refl;
+      credited = credit .dispute (record { closing = refl; undisputed = refl; unsettled = refl; early = omega arith }) (disputes 7) (record { code = refl; whole = refl; named = refl; opens = refl; good = refl });
+      credit-closing = credit .conserved;
+      credit-disputed = (accounted (list ++ disputes 7 ∷ []) 7 (omega arith)) .disputed refl;
+      reclaimed = (accounted list 8 (omega arith)) .splits refl;
+      refused = before .elsewhere 10 (omega arith) refl;
+      timed = before .elsewhere 15 (omega arith) refl;
     }

@@ -7,9 +7,9 @@ use native.Mathlib.Omega.{arith}
 use lib.Dec.{eqb, leb}
 use borrow.Author.Tests.{eqb-true, leb-true, ne-eqb}
 use Rattle.machine.specs.Checks.{Verdict}
-use Rattle.machine.specs.Format.{opcode, amount, customerDeposit, delay, customerPart, merchantPart, lock}
+use Rattle.machine.specs.Format.{opcode, amount, customerDeposit, merchantDeposit, delay, customerPart, merchantPart, lock}
 use Rattle.machine.specs.Book.{shortest, longest, ranged, agreed, total, held, soundSetup}
-use Rattle.machine.specs.Rules.{Plan, moved, become, delayed, delayFits, establish, fundCustomer, fundMerchant, reclaim, mutualClose, customerClose, merchantClose, dispute, settle}
+use Rattle.machine.specs.Rules.{Plan, moved, become, delayed, delayFits, established, establish, fundCustomer, fundMerchant, reclaim, mutualClose, customerClose, merchantClose, dispute, settle}
 use Rattle.machine.specs.Machine.{customerOf, merchantOf, plan}
 use Rattle.machine.specs.Ledger.{Event, deposits, sum, opcodes, member, tally, has, count, eventOf, closings, agreedCustomer, agreedTotal, paid, allMerchant, split}
 use Rattle.machine.specs.declared.state.Channel.{Channel}
@@ -18,7 +18,7 @@ use Rattle.machine.specs.declared.state.Context.{Context}
 use Rattle.machine.specs.declared.answers.Answer.{Answer}
 use Rattle.machine.proofs.Laws.{clash, and-both, in-range, or-neither, or-other, or-right}
 use Rattle.machine.proofs.Judging.{Passed}
-use Rattle.machine.proofs.Life.{Lacks, unclosed, unanswered, running, unmatched, unfunded, TermsOf, Live, Waiting, Leaving, Over, StageAt, Stage}
+use Rattle.machine.proofs.Life.{Lacks, unclosed, unanswered, running, unmatched, unfunded, TermsOf, Money, Live, Waiting, Leaving, Over, StageAt, Stage}
 
 -- ---- laws
 
@@ -126,14 +126,16 @@ module _ (l : List Event) (s : List ℕ) (a : Answer) (k : ℕ) where
     establishes o p pc pm g =
         let e : l ≡ [] = found 0 (p .0) g in
         let d = delayed-fits (setup .delay) fixed (delay s) (p .1 .1 .0) in
-        let f = and-both (leb 1 (customerDeposit s)) _ (p .1 .1 .1 .0) in (
-          record {
-            terms = rw (event-next 2 (rw o)) (record { there = rw o; customer = refl; merchant = refl; delays = refl; signer = refl; fits = leb-true _ _ (f .1); least = d .0; most = d .1 });
-            lacks = lacks-on unfunded (rw o) (rw e (lacks-none unfunded));
-            money = omega (arith, no-funds (rw o), pays-customer, pays-merchant, ap deposits e, ap (λ x. (paid x) .customer) e, ap (λ x. (paid x) .merchant) e);
-          },
-          rw e,
-        )
+        let f = and-both (leb 1 (customerDeposit s + merchantDeposit s)) _ (p .1 .1 .1 .0) in
+        let ch = established (setup .delay) (customerOf s) (merchantOf s) (delay s) c in
+        let t : TermsOf setup (next ∷ l) ch = rw (event-next 2 (rw o)) (record { there = rw o; customer = refl; merchant = refl; delays = refl; signer = refl; fits = leb-true _ _ (f .1); least = d .0; most = d .1 }) in
+        let w = lacks-on unfunded (rw o) (rw e (lacks-none unfunded)) in
+        let m : Money (next ∷ l) 0 0 0 = omega (arith, no-funds (rw o), pays-customer, pays-merchant, ap deposits e, ap (λ x. (paid x) .customer) e, ap (λ x. (paid x) .merchant) e) in
+        let go : (b : Bool) → eqb (customerDeposit s) 0 ≡ b → StageAt setup (next ∷ l) ch (cond b 2 1) = elim [
+          | true ↦ λ z. record { terms = t; lacks = fewer 3 unmatched (next ∷ l) w; money = rw (eqb-true (customerDeposit s) 0 z) m }
+          | false ↦ λ z. record { terms = t; lacks = w; money = m }
+        ] in
+        (go (eqb (customerDeposit s) 0) refl, rw e)
 
     fundsCustomer : Leads 3 (fundCustomer (amount s) c)
     unfolding fundCustomer member

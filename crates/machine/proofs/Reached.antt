@@ -1,6 +1,7 @@
 -- A list by computing, so that the third demand speaks of books that are reached, with a check that always says yes and a hash that changes
--- nothing, on a book opened with the desk's settings: channel 2 is closed by both; the customer closes channel 5, whose 02 has the delay 0, and
--- there is no 08; the clock shows the last second before the deadline of the default.
+-- nothing, on a book opened with the desk's settings: channel 2 is closed by both; the customer closes channels 5 and 7, whose 02 has the delay
+-- 0, and there is no 08; the clock shows the last second before the deadline of the default. Only the merchant funds channel 7, and channel 8,
+-- which is reclaimed before.
 use mathlib.Core.Path.{_≡_, refl}
 use mathlib.Core.Bool.{true}
 use mathlib.Core.List.{List, [], _∷_, _++_}
@@ -31,9 +32,12 @@ eight n = replicate 5 0 ++ n / 65536 % 256 ∷ two n
 abbrev pub key : ℕ → List ℕ
 key x = replicate 3 0 ++ 6 ∷ replicate 3 0 ++ 4 ∷ replicate 48 x
 
--- 900 and 100, with this delay.
+-- With these deposits and this delay.
+abbrev agrees : ℕ → ℕ → ℕ → ℕ → List ℕ
+agrees n customer merchant delay = 2 ∷ two n ++ key 1 ++ key 2 ++ eight customer ++ eight merchant ++ replicate 2 0 ++ two delay
+
 abbrev pub establishes : ℕ → ℕ → List ℕ
-establishes n delay = 2 ∷ two n ++ key 1 ++ key 2 ++ eight 900 ++ eight 100 ++ replicate 2 0 ++ two delay
+establishes n delay = agrees n 900 100 delay
 
 abbrev pub funds : ℕ → ℕ → ℕ → List ℕ
 funds op n cents = op ∷ two n ++ eight cents
@@ -41,8 +45,11 @@ funds op n cents = op ∷ two n ++ eight cents
 abbrev clocks : ℕ → List ℕ
 clocks t = 1 ∷ eight t
 
-abbrev pub disputes : List ℕ
-disputes = 9 ∷ two 5 ++ replicate 32 5 ++ replicate 1452 0
+abbrev closes : ℕ → ℕ → ℕ → List ℕ
+closes n customer merchant = 7 ∷ two n ++ replicate 32 5 ++ eight customer ++ eight merchant ++ replicate 2904 0
+
+abbrev pub disputes : ℕ → List ℕ
+disputes n = 9 ∷ two n ++ replicate 32 5 ++ replicate 1452 0
 
 abbrev pub opens : Opening
 opens = under deskSettings (replicate 16 0)
@@ -59,7 +66,12 @@ list =
     ∷ funds 3 5 900
     ∷ funds 4 5 100
     ∷ (6 ∷ two 2 ++ eight 400 ++ eight 600 ++ replicate 2904 0)
-    ∷ (7 ∷ two 5 ++ replicate 32 5 ++ eight 700 ++ eight 300 ++ replicate 2904 0)
+    ∷ closes 5 700 300
+    ∷ agrees 7 0 100 0
+    ∷ funds 4 7 100
+    ∷ closes 7 70 30
+    ∷ agrees 8 0 100 0
+    ∷ (5 ∷ two 8 ++ replicate 1452 0)
     ∷ clocks 173799
     ∷ []
 
@@ -70,12 +82,14 @@ record Reached (t : Standing) : Type 0 where
   status : (reading (t .book) 5) .status ≡ 5
   holds : (reading (t .book) 5) .held .0 ≡ 700
   deadline : (reading (t .book) 5) .deadline .0 ≡ 173800
-  disputed : (step yes plain (t .book) disputes) .answer .refusal ≡ 0
-  pays : (step yes plain (t .book) disputes) .answer .merchant .0 ≡ 700
-  steps : (step yes plain (t .book) disputes) .answer .steps ≡ 510
+  disputed : (step yes plain (t .book) (disputes 5)) .answer .refusal ≡ 0
+  pays : (step yes plain (t .book) (disputes 5)) .answer .merchant .0 ≡ 700
+  steps : (step yes plain (t .book) (disputes 5)) .answer .steps ≡ 510
   settles : (step yes plain (t .book) (10 ∷ two 5)) .answer .refusal ≡ 9
-  late : (step yes plain ((step yes plain (t .book) (clocks 173800)) .book) disputes) .answer .refusal ≡ 9
+  late : (step yes plain ((step yes plain (t .book) (clocks 173800)) .book) (disputes 5)) .answer .refusal ≡ 9
+  credited : (step yes plain (t .book) (disputes 7)) .answer .merchant .0 ≡ 70
+  reclaimed : (reading (t .book) 8) .status ≡ 6
 
 reached : Reached (standing list)
 unfolding yes plain standing u16At u32At u64At same size message total held soundChannel sound fresh readChannel reading ask delayed keyed establish fundCustomer fundMerchant reclaim mutualClose customerClose merchantClose dispute settle answer concluded ruling verdict plan step after
-reached = record { status = refl; holds = refl; deadline = refl; disputed = refl; pays = refl; steps = refl; settles = refl; late = refl }
+reached = record { status = refl; holds = refl; deadline = refl; disputed = refl; pays = refl; steps = refl; settles = refl; late = refl; credited = refl; reclaimed = refl }

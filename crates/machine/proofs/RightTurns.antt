@@ -127,12 +127,25 @@ module _ (check : List ℕ → List ℕ → List ℕ → Verdict) (hash : List �
     opens = opens;
     refused = refused;
     unused = λ ch e. rw e;
-    establishes = λ at customer merchant ch. record { default = refl; delay = λ d n. rw (ne-eqb d 0 n); deadline = λ d. refl; kept = λ d. refl; lock = λ d. refl };
+    establishes = λ at customer merchant ch. record {
+      default = refl;
+      delay = λ d n. rw (ne-eqb d 0 n);
+      awaits-merchant = λ d e. rw (eq-eqb _ _ e);
+      awaits-customer = λ d n. rw (ne-eqb _ _ n);
+      deadline = λ d. refl;
+      kept = λ d. refl;
+      lock = λ d. refl;
+    };
     reclaims = λ v ch g e. let z : 0 + v .steps ≡ v .steps = omega arith in rw (e, g) (ap (λ (n : ℕ). refusal 12 n) z);
     unclosed-settled = λ at ch p q. rw (ne-eqb _ _ p, ne-eqb _ _ q);
     unclosed-disputed = λ at hashed v ch e. rw (ne-eqb _ _ e);
     lock-differs = λ at hashed v ch e t n. rw (e, lt-ltb _ _ t, same-ne _ _ n);
     delay-first = λ at customer merchant d ch e k n. rw (e, k, n);
+    deposits = λ at customer merchant d ch e k f. record {
+      none = λ c b. rw (e, k, f, c, b);
+      large = λ h. rw (e, k, f, le-leb 1 (customer .deposit .0 + merchant .deposit .0) (omega (arith, h)), lt-leb _ _ h);
+      some = λ h i. rw (e, k, f, le-leb _ _ h, le-leb _ _ i);
+    };
     keys = compares-keys;
     ordered = in-order;
     answers = λ at c b lock v w ch. refl;

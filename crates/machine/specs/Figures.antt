@@ -1,4 +1,5 @@
--- Document 01, "Figures at the edges": the starred rows, on the rules with verdicts given.
+-- Document 01, "Figures at the edges": the starred rows, on the rules with verdicts given. Document 02, No. 2: rows of an account that only
+-- the merchant funds.
 use mathlib.Core.Path.{_≡_}
 use mathlib.Core.Bool.{true}
 use mathlib.Core.List.{List}
@@ -7,7 +8,7 @@ use lib.ListN.{replicate}
 use Rattle.lms.specs.OneTime.{stepCount}
 use Rattle.machine.specs.Book.{cents, seconds, party, readChannel}
 use Rattle.machine.specs.Checks.{Verdict}
-use Rattle.machine.specs.Rules.{Plan, fundCustomer, fundMerchant, mutualClose, customerClose, dispute, settle}
+use Rattle.machine.specs.Rules.{Plan, keyed, establish, fundCustomer, fundMerchant, reclaim, mutualClose, customerClose, dispute, settle}
 use Rattle.machine.specs.Machine.{ruling}
 use Rattle.machine.specs.declared.state.Channel.{Channel}
 use Rattle.machine.specs.declared.state.Context.{Context}
@@ -44,25 +45,38 @@ by rule ch = shown (ruling ch (rule ch))
 abbrev pub good : ℕ → Verdict
 good steps = record { good = true; steps = steps }
 
--- With any keys and lock, any deadline d and kept part x before a closing, any step counts v and w, and any id and setup of the book.
-module _ (key lock id : List ℕ) (d x v w : ℕ) (setup : Setup) where
+-- With any keys that two parties may have, any lock, any deadline d and kept part x before a closing, any step counts v and w, and any id and
+-- setup of the book.
+module _ (key other lock id : List ℕ) (d x v w : ℕ) (setup : Setup) where
   -- A book whose clock shows this time.
   abbrev pub showing : ℕ → Context
   showing t = record { id = id; clock = seconds t; setup = setup }
 
-  -- D_c 900, D_b 100, delay 3,600.
-  abbrev pub example : ℕ → ℕ → ℕ → Channel
-  example status deadline kept = record {
+  -- Delay 3,600.
+  abbrev pub account : ℕ → ℕ → ℕ → ℕ → ℕ → Channel
+  account customer merchant status deadline kept = record {
     status = status;
-    customer = party key 900;
-    merchant = party key 100;
+    customer = party key customer;
+    merchant = party other merchant;
     delay = 3600;
     deadline = seconds deadline;
     kept = cents kept;
     lock = lock;
   }
 
-  pub record Figures : Type 0 where
+  -- D_c 900, D_b 100.
+  abbrev pub example : ℕ → ℕ → ℕ → Channel
+  example = account 900 100
+
+  -- D_c 0, D_b 100.
+  abbrev pub credit : ℕ → ℕ → ℕ → Channel
+  credit = account 0 100
+
+  -- A 02 with these deposits, on a channel that is not used.
+  abbrev pub agreeing : ℕ → ℕ → Row
+  agreeing customer merchant = by (establish (showing 1000) (party key customer) (party other merchant) 3600) (example 0 d x)
+
+  pub record Figures (fit : keyed key other ≡ true) : Type 0 where
     pub funds-900 : by (fundCustomer 900) (example 1 d x) ≡ row 0 0 0 2 900 0
     pub funds-899 : by (fundCustomer 899) (example 1 d x) ≡ row 8 0 0 1 0 0
     pub funds-100 : by (fundMerchant 100) (example 2 d x) ≡ row 0 0 0 3 1000 0
@@ -74,5 +88,14 @@ module _ (key lock id : List ℕ) (d x v w : ℕ) (setup : Setup) where
     pub disputes-at-4600 : by (dispute (showing 4600) lock (good v)) (example 5 4600 700) ≡ row 9 0 0 5 700 4600
     pub settles-at-4599 : by (settle (showing 4599)) (example 5 4600 700) ≡ row 9 0 0 5 700 4600
     pub settles-at-4600 : by (settle (showing 4600)) (example 5 4600 700) ≡ row 0 700 0 6 0 0
+    pub credits-100 : agreeing 0 100 ≡ row 0 0 0 2 0 0
+    pub credits-reclaimed : by (reclaim (good v)) (credit 2 d x) ≡ row 0 0 0 6 0 0
+    pub credits-funded : by (fundMerchant 100) (credit 2 d x) ≡ row 0 0 0 3 100 0
+    pub credits-customer : by (fundCustomer 0) (credit 2 d x) ≡ row 5 0 0 2 0 0
+    pub credits-nothing : agreeing 0 0 ≡ row 8 0 0 0 0 0
+    pub credits-most : agreeing 0 (2 ^ 63 - 1) ≡ row 0 0 0 2 0 0
+    pub credits-more : agreeing 0 (2 ^ 63) ≡ row 8 0 0 0 0 0
+    pub sums-to-more : agreeing (2 ^ 63 - 1) 1 ≡ row 8 0 0 0 0 0
+    pub customer-alone : agreeing 900 0 ≡ row 0 0 0 1 0 0
     pub steps-of-FF : stepCount (replicate 32 255) ≡ 510
     pub steps-of-00 : stepCount (replicate 32 0) ≡ 8415

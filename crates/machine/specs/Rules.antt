@@ -1,5 +1,6 @@
 -- Document 01, "Commands" and checks 5 to 12: for each of 02 to 0A its checks on the channel, in the paper's order, what becomes of the
--- channel, and whom it pays. A rule takes what it reads of the book, the operands and the verdicts. Document 02, No. 1: a delay of 0.
+-- channel, and whom it pays. A rule takes what it reads of the book, the operands and the verdicts. Document 02, No. 1: a delay of 0; No. 2:
+-- accounts that only the merchant funds.
 use mathlib.Core.Bool.{Bool, cond, not, _&&_, _||_}
 use mathlib.Core.List.{List, [], _∷_}
 use Prim.Native.Nat.{ℕ, _+_}
@@ -57,14 +58,14 @@ keyed customer merchant = typedKey customer && typedKey merchant && not (same cu
 abbrev pub delayFits : ℕ → Bool
 delayFits d = eqb d 0 || ranged d
 
--- Check 8 of 02: D_c at least 1, the sum at most 2^63 - 1, as whole numbers.
+-- Check 8 of 02: the sum is 1 to 2^63 - 1, as whole numbers.
 abbrev pub depositsFit : ℕ → ℕ → Bool
-depositsFit c b = leb 1 c && leb (c + b) limit
+depositsFit c b = leb 1 (c + b) && leb (c + b) limit
 
--- The keys, the deposits, the delay and the status are named: deadline, kept part and lock stay.
+-- Status 1, or 2 where D_c is 0. The keys, the deposits, the delay and the status are named: deadline, kept part and lock stay.
 abbrev pub established : ℕ → Party → Party → ℕ → Channel → Channel
 established default customer merchant d ch = record {
-  status = 1;
+  status = cond (eqb (customer .deposit .0) 0) 2 1;
   customer = customer;
   merchant = merchant;
   delay = delayed default d;

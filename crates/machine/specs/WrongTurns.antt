@@ -8,7 +8,7 @@ use lib.Dec.{ltb}
 use lib.ListN.{length, getD}
 use Rattle.lms.specs.Layout.{typedKey}
 use Rattle.machine.specs.Format.{opcode}
-use Rattle.machine.specs.Book.{cents, seconds, layout, markOf, sound, noReading, readChannel, reading}
+use Rattle.machine.specs.Book.{cents, seconds, limit, layout, markOf, sound, noReading, readChannel, reading}
 use Rattle.machine.specs.Checks.{Verdict, Check, numberOf}
 use Rattle.machine.specs.Opening.{Opening, fresh, opening}
 use Rattle.machine.specs.Due.{none, due}
@@ -38,13 +38,22 @@ pub record Keys (at : Context) (customer merchant : Party) (d : ℕ) (ch : Chann
   pub differ : (i : ℕ) → (getD (customer .key) i 0 ≡ getD (merchant .key) i 0 → ⊥) → (answered ch (establish at customer merchant d ch)) .refusal ≡ 6 → ⊥
   pub equal : customer .key ≡ merchant .key → answered ch (establish at customer merchant d ch) ≡ refusal 6 0
 
--- What a 02 does not name stays. A delay of 0 is stored as the book's default, any other as it is.
+-- What a 02 does not name stays. A delay of 0 is stored as the book's default, any other as it is. Where D_c is 0 the merchant is awaited at
+-- once, else the customer, also where D_b is 0.
 pub record Establishes (at : Context) (customer merchant : Party) (ch : Channel) : Type 0 where
   pub default : ((establish at customer merchant 0 ch) .channel) .delay ≡ at .setup .delay
   pub delay : (d : ℕ) → (d ≡ 0 → ⊥) → ((establish at customer merchant d ch) .channel) .delay ≡ d
+  pub awaits-merchant : (d : ℕ) → customer .deposit .0 ≡ 0 → ((establish at customer merchant d ch) .channel) .status ≡ 2
+  pub awaits-customer : (d : ℕ) → (customer .deposit .0 ≡ 0 → ⊥) → ((establish at customer merchant d ch) .channel) .status ≡ 1
   pub deadline : (d : ℕ) → ((establish at customer merchant d ch) .channel) .deadline ≡ ch .deadline
   pub kept : (d : ℕ) → ((establish at customer merchant d ch) .channel) .kept ≡ ch .kept
   pub lock : (d : ℕ) → ((establish at customer merchant d ch) .channel) .lock ≡ ch .lock
+
+-- A 02 that passes all checks before 8: both deposits 0 are refused, one of them is not; nor is the sum up to 2^63 - 1.
+pub record Deposits (at : Context) (customer merchant : Party) (d : ℕ) (ch : Channel) : Type 0 where
+  pub none : customer .deposit .0 ≡ 0 → merchant .deposit .0 ≡ 0 → answered ch (establish at customer merchant d ch) ≡ refusal 8 0
+  pub large : limit < customer .deposit .0 + merchant .deposit .0 → answered ch (establish at customer merchant d ch) ≡ refusal 8 0
+  pub some : 1 ≤ customer .deposit .0 + merchant .deposit .0 → customer .deposit .0 + merchant .deposit .0 ≤ limit → answered ch (establish at customer merchant d ch) ≡ refusal 0 0
 
 abbrev pub notOpened : Book → ℕ → Opened
 notOpened lent r = record { book = lent; refusal = r }
@@ -86,6 +95,7 @@ module _ (check : List ℕ → List ℕ → List ℕ → Verdict) (hash : List �
     pub lock-differs : (at : Context) (hashed : List ℕ) (v : Verdict) (ch : Channel) → ch .status ≡ 5 → at .clock .0 < ch .deadline .0 → (hashed ≡ ch .lock → ⊥) → answered ch (dispute at hashed v ch) ≡ refusal 10 0
     -- A 02 whose delay is out of range is refused with 7, whatever its deposits.
     pub delay-first : (at : Context) (customer merchant : Party) (d : ℕ) (ch : Channel) → ch .status ≡ 0 → keyed (customer .key) (merchant .key) ≡ true → delayFits d ≡ false → answered ch (establish at customer merchant d ch) ≡ refusal 7 0
+    pub deposits : (at : Context) (customer merchant : Party) (d : ℕ) (ch : Channel) → ch .status ≡ 0 → keyed (customer .key) (merchant .key) ≡ true → delayFits d ≡ true → Deposits at customer merchant d ch
     pub keys : (at : Context) (customer merchant : Party) (d : ℕ) (ch : Channel) → ch .status ≡ 0 → typedKey (customer .key) ≡ true → typedKey (merchant .key) ≡ true → Keys at customer merchant d ch
     -- The checks of every command stand in the paper's order, 1 and 2 first.
     pub ordered : (b : Book) (s : List ℕ) → 1 ≤ opcode s → opcode s ≤ 10 → rising 0 (formed s ((order check hash b s) .checks)) ≡ true

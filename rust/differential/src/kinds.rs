@@ -3,15 +3,21 @@ use crate::wallet::bits_apart;
 use oracle::{digest, Book, PLAIN_DEFAULT, TYPES};
 
 /// The kinds that every run must meet.
-pub const KINDS: [&str; 12] = [
+pub const KINDS: [&str; 18] = [
     EQUAL,
     IDENTIFIERS,
     ROOTS,
     DEFAULT_READ,
+    NO_DEPOSIT,
     LOCK_START,
     LOCK_MIDDLE,
     LOCK_END,
     FILED,
+    OPENED,
+    RECLAIMED,
+    CLOSED,
+    DISPUTED,
+    SETTLED,
     ACCEPTED,
     ID_REFUSED,
     DEFAULT_REFUSED,
@@ -22,12 +28,20 @@ const EQUAL: &str = "02 refused for equal keys";
 const IDENTIFIERS: &str = "02 accepted with identifiers one bit apart";
 const ROOTS: &str = "02 accepted with roots one bit apart";
 const DEFAULT_READ: &str = "02 accepted with a delay of 0 and another default than the plain one";
+const NO_DEPOSIT: &str = "02 refused for deposits of 0 and 0";
 const LOCK_START: &str = "09 refused for a bit in the lock's first byte";
 const LOCK_MIDDLE: &str = "09 refused for a bit between";
 const LOCK_END: &str = "09 refused for a bit in the lock's last byte";
 
 /// A lock that a 07 of the same journal filed.
 pub const FILED: &str = "09 refused for a bit of the lock in its 07";
+
+/// What became of an account in a journal that only the merchant funds.
+const OPENED: &str = "04 accepted where the customer deposits nothing";
+const RECLAIMED: &str = "05 accepted where the customer deposits nothing";
+const CLOSED: &str = "06 accepted where the customer deposits nothing";
+const DISPUTED: &str = "09 accepted where the customer deposits nothing";
+const SETTLED: &str = "0A accepted where the customer deposits nothing";
 
 /// Openings by their answers.
 pub const ACCEPTED: &str = "openings accepted";
@@ -44,10 +58,29 @@ pub fn kind(book: &Book, command: &[u8], refusal: u8) -> Option<&'static str> {
             let rest = default_read(book, &operands[128..], refusal);
             keys(&operands[..56], &operands[56..112]).or(rest)
         }
+        ([0x02, _, _, operands @ ..], 8) => (operands[112..128] == [0; 16]).then_some(NO_DEPOSIT),
         ([0x09, _, low, operands @ ..], 10) => {
             let lock = &book.channels[usize::from(*low)].lock;
             secret(&operands[..32], lock)
         }
+        _ => None,
+    }
+}
+
+/// The kind of an accepted command to an account that only the merchant funds, if it is one of
+/// them.
+pub fn credit(book: &Book, command: &[u8]) -> Option<&'static str> {
+    let [opcode @ 0x02..=0x0a, _, low, ..] = command else {
+        return None;
+    };
+    let deposit = book.channels[usize::from(*low)].customer.deposit;
+    match opcode {
+        _ if deposit > 0 => None,
+        0x04 => Some(OPENED),
+        0x05 => Some(RECLAIMED),
+        0x06 => Some(CLOSED),
+        0x09 => Some(DISPUTED),
+        0x0a => Some(SETTLED),
         _ => None,
     }
 }

@@ -4,6 +4,7 @@ mod arbitrary;
 pub mod bridge;
 mod fence;
 mod kinds;
+mod ledger;
 mod maker;
 mod options;
 mod pair;

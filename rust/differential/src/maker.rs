@@ -6,9 +6,13 @@ use crate::spoil;
 use crate::wallet::Wallet;
 use oracle::{Book, Channel, SIGNATURE};
 
-/// Deposits that are agreed often, so that signatures come back.
-const DEPOSITS: [[u64; 2]; 8] = [
+/// Deposits that are agreed often, so that signatures come back; some are the merchant's alone.
+const DEPOSITS: [[u64; 2]; 12] = [
     [900, 100],
+    [0, 100],
+    [0, 100],
+    [0, 1],
+    [0, (1 << 63) - 1],
     [900, 0],
     [1, 0],
     [1, 1],

@@ -63,7 +63,7 @@ impl Pair {
     }
 
     /// Gives both a command, and the answer.
-    pub fn apply(&mut self, command: &[u8], tally: &mut Tally) -> Result<u8, String> {
+    pub fn apply(&mut self, command: &[u8], tally: &mut Tally) -> Result<oracle::Answer, String> {
         let former = self.library.as_raw().clone();
         let before = status(&self.oracle, command);
         let library = self.library.apply(command);
@@ -83,7 +83,7 @@ impl Pair {
         same_answer(&library, &oracle)
             .and_then(|()| self.agree(&former))
             .map_err(|text| format!("{text}\ncommand: {}", hex(command)))?;
-        Ok(oracle.refusal)
+        Ok(oracle)
     }
 
     /// Whether all bytes of the books are equal, the library's book having been this one before.

@@ -19,8 +19,9 @@ const REACHABLE: [(u8, &[u8]); 11] = [
 ];
 
 /// Accepted commands by the channel's status before and after.
-const MOVES: [(u8, u8, u8); 12] = [
+const MOVES: [(u8, u8, u8); 13] = [
     (0x02, 0, 1),
+    (0x02, 0, 2),
     (0x03, 1, 2),
     (0x03, 1, 3),
     (0x04, 2, 3),

@@ -1,9 +1,9 @@
 //! The channel arbiter, proved: a safe wrapper around the archive that `rt staticlib finaruvom`
 //! makes.
 //!
-//! A customer, as a café, and a merchant, as its bakery, pay deposits into a channel of a
-//! [`Book`]. Commands, each a string of bytes that [`command`] makes, establish, fund, close,
-//! dispute and settle it. Every command gets an [`Answer`].
+//! A customer, as a café, and a merchant, as its bakery, or one of them alone, pay deposits into a
+//! channel of a [`Book`]. Commands, each a string of bytes that [`command`] makes, establish, fund,
+//! close, dispute and settle it. Every command gets an [`Answer`].
 //!
 //! ```
 //! use finaruvom::command::{SetClock, Settle};

@@ -1,5 +1,5 @@
-//! Document 01, and document 02 No. 1 where that says otherwise, in plain Rust, written from the
-//! papers alone, to compare the library with.
+//! Document 01, and document 02 No. 1 and 2 where these say otherwise, in plain Rust, written from
+//! the papers alone, to compare the library with.
 
 mod book;
 mod check;

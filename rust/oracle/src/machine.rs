@@ -1,5 +1,5 @@
 //! A command on a book: checks, then what it changes and pays. A delay of 0 is read as document 02
-//! No. 1 has it.
+//! No. 1 has it, a customer who deposits nothing as its No. 2.
 use crate::book::{Book, Channel, Party};
 use crate::check::check;
 use crate::command::{Command, Order};
@@ -108,6 +108,10 @@ fn payment(channel: &Channel, order: Order) -> (u64, u64) {
 fn next_status(channel: &Channel, order: Order) -> u8 {
     match order {
         Order::Clock { .. } => channel.status,
+        Order::Establish {
+            customer_deposit: 0,
+            ..
+        } => 2,
         Order::Establish { .. } => 1,
         Order::CustomerFunds { .. } if channel.merchant.deposit > 0 => 2,
         Order::CustomerFunds { .. } | Order::MerchantFunds { .. } => 3,

@@ -1,4 +1,5 @@
-//! The checks 3 to 10 of document 01, each true where it doesn't apply to the command.
+//! The checks 3 to 10 of document 01, each true where it doesn't apply to the command; the deposits
+//! of 02 as document 02 No. 2 has them.
 use crate::book::{Book, Channel, CHANNELS, DELAYS, LARGEST};
 use crate::check::TYPES;
 use crate::command::{Command, Order};
@@ -82,7 +83,7 @@ fn cents_fit(book: &Book, command: &Command) -> bool {
             customer_deposit: c,
             merchant_deposit: b,
             ..
-        } => c >= 1 && sum(c, b) <= u128::from(LARGEST),
+        } => (1..=u128::from(LARGEST)).contains(&sum(c, b)),
         Order::CustomerFunds { cents } => cents == channel.customer.deposit,
         Order::MerchantFunds { cents } => cents == channel.merchant.deposit,
         Order::MutualClose { customer, merchant }

@@ -1,7 +1,9 @@
-//! Lists of commands from a fresh book of any default, made by somebody who knows its state.
+//! Lists of commands from a fresh book of any default, made by somebody who knows its state, with
+//! the account of each channel.
 use super::World;
 use crate::arbitrary;
-use crate::kinds::{kind, FILED};
+use crate::kinds::{credit, kind, FILED};
+use crate::ledger::Ledger;
 use crate::maker::Maker;
 use crate::pair::{Outcome, Pair};
 use crate::rng::Rng;
@@ -16,16 +18,24 @@ pub fn case(rng: &mut Rng, world: &mut World) -> Outcome {
         _ => (some_channels(rng), 60),
     };
     let mut maker = Maker::new(rng, &mut world.wallet, channels);
+    let mut ledger = Ledger::new();
     for number in 1..=commands {
         let command = maker.command(&pair.oracle);
-        let refusal = pair
+        let answer = pair
             .apply(&command, &mut world.tally)
             .map_err(|text| format!("command {number}, {text}"))?;
         pair.read(&mut world.tally)?;
-        if refusal == 10 && kind(&pair.oracle, &command, refusal).is_some() {
-            world.tally.compared(FILED);
+        let found = match answer.refusal {
+            0 => credit(&pair.oracle, &command),
+            10 => kind(&pair.oracle, &command, 10).map(|_| FILED),
+            _ => None,
+        };
+        if let Some(kind) = found {
+            world.tally.compared(kind);
         }
-        if refusal == 0 {
+        if answer.refusal == 0 {
+            ledger.enter(&command, &answer);
+            ledger.balanced(&pair.library)?;
             maker.remember(command);
         }
     }

@@ -7,8 +7,9 @@ use differential::wallet::Wallet;
 use finaruvom::Book;
 use oracle::digest;
 
-/// The commands of a channel's life behind 01 and 02. A second 01 passes the deadline.
-const LIVES: [&[u8]; 7] = [
+/// The commands of a channel's life behind 01 and 02. A second 01 passes the deadline. Without an 03
+/// only the merchant deposits.
+const LIVES: [&[u8]; 14] = [
     &[3, 5],
     &[3, 4, 6],
     &[3, 4, 7, 9],
@@ -16,6 +17,13 @@ const LIVES: [&[u8]; 7] = [
     &[3, 4, 8, 1, 10],
     &[3, 4, 8, 7, 9],
     &[3, 4, 8, 7, 1, 10],
+    &[5],
+    &[4, 6],
+    &[4, 7, 9],
+    &[4, 7, 1, 10],
+    &[4, 8, 1, 10],
+    &[4, 8, 7, 9],
+    &[4, 8, 7, 1, 10],
 ];
 
 const DELAY: u32 = 3_600;
@@ -70,10 +78,14 @@ fn desk<'a>(rng: &mut Rng, wallet: &'a mut Wallet, life: usize) -> Desk<'a> {
     let id = rng.array();
     let customer = rng.below(Wallet::PARTIES);
     let merchant = (customer + 1 + life % 2) % Wallet::PARTIES;
+    let mut deposits = [1 + rng.number() % (1 << 62), 1 + rng.number() % (1 << 62)];
+    if !LIVES[life].contains(&3) {
+        deposits[0] = 0;
+    }
     let operands = Plan {
         opcode: 0,
         n,
-        numbers: [1 + rng.number() % (1 << 62), 1 + rng.number() % (1 << 62)],
+        numbers: deposits,
         keys: [customer, merchant].map(|party| wallet.key(party)),
         delay: DELAY,
         string: rng.array(),

@@ -39,6 +39,13 @@ impl Desk {
         desk
     }
 
+    /// The channel established with a deposit of the merchant alone.
+    pub fn credit() -> Desk {
+        let mut desk = Desk::new();
+        assert_eq!(desk.give(0x02, [0, 100]), paid(0, 0));
+        desk
+    }
+
     /// The channel established, and funded by the customer.
     pub fn funded() -> Desk {
         let mut desk = Desk::established();

@@ -130,7 +130,7 @@ fn wrong_keys(keys: Keys) -> [Keys; 6] {
 /// Cents that do not fit, deposits being 900 and 100.
 fn wrong_cents(opcode: u8) -> &'static [[u64; 2]] {
     match opcode {
-        0x02 => &[[0, 100], [1 << 63, 0], [1, u64::MAX]],
+        0x02 => &[[0, 0], [0, 1 << 63], [1 << 63, 0], [1, u64::MAX]],
         0x03 => &[[899, 0], [100, 0], [1_000, 0]],
         0x04 => &[[99, 0], [900, 0], [1_000, 0]],
         _ => &[[400, 601], [399, 600], [u64::MAX, 1_001]],

@@ -1,5 +1,6 @@
 //! The papers' figures and the order of the checks, through the library alone.
 mod case;
+mod credit;
 mod defaults;
 mod desk;
 mod edges;

@@ -6,12 +6,14 @@ use finaruvom::Book;
 /// A command, the desk that carries it out, and the checks from 3 on that apply to it, in order.
 type Row = (u8, fn() -> Desk, &'static [u8]);
 
-const ROWS: [Row; 12] = [
+const ROWS: [Row; 14] = [
     (0x01, Desk::new, &[3]),
     (0x02, Desk::new, &[4, 5, 6, 7, 8]),
     (0x03, Desk::established, &[4, 5, 8]),
     (0x04, Desk::funded, &[4, 5, 8]),
+    (0x04, Desk::credit, &[4, 5, 8]),
     (0x05, Desk::funded, &[4, 5, 12]),
+    (0x05, Desk::credit, &[4, 5, 12]),
     (0x06, Desk::open, &[4, 5, 8, 11, 12]),
     (0x07, Desk::open, &[4, 5, 8, 11, 12]),
     (0x07, Desk::merchant_closing, &[4, 5, 8, 9, 11, 12]),

@@ -3,7 +3,8 @@ use super::writer::Writer;
 use crate::sizes::{ID_SIZE, KEY_SIZE, SIGNATURE_SIZE};
 use crate::units::Cents;
 
-/// 02: establishes a channel. Its number is used once in a book.
+/// 02: establishes a channel. Its number is used once in a book. It awaits the customer, or at once
+/// the merchant where the customer deposits nothing.
 ///
 /// ```
 /// use finaruvom::command::Establish;
@@ -29,9 +30,9 @@ pub struct Establish {
     pub customer_key: [u8; KEY_SIZE],
     /// The merchant's LMS key.
     pub merchant_key: [u8; KEY_SIZE],
-    /// The deposit that the customer will fund, at least 1.
+    /// The deposit that the customer will fund, or 0.
     pub customer: Cents,
-    /// The deposit that the merchant will fund.
+    /// The deposit that the merchant will fund, or 0. The two together are 1 to 2^63 - 1.
     pub merchant: Cents,
     /// Seconds from a closing to its deadline, 3,600 to 2,592,000; 0 stands for the default of the
     /// book.
@@ -109,7 +110,8 @@ impl FundMerchant {
     }
 }
 
-/// 05: the customer takes the deposit back while the merchant has not funded.
+/// 05: the customer takes the deposit back while the merchant has not funded. It closes the channel,
+/// and pays 0 where the customer deposits nothing.
 ///
 /// ```
 /// use finaruvom::command::Reclaim;

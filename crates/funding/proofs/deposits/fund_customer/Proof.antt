@@ -11,7 +11,7 @@ returns c =
     let c₂ = c .before .before in
     let c₅ = c₂ .before .before .before in
     let c₇ = c₅ .before .before in
-    c .ruled .ensures ∙ rw (c₂ .tested2 .ensures .0, c₅ .tested .ensures .0, c₇ .unjudged .ensures .0, c .before .status-funded .ensures)
+    c .ruled .ensures ∙ rw (c₂ .tested2 .ensures .0, c₅ .tested .ensures .0, c₇ .unjudged .ensures .0, c .before .status-awaiting .ensures)
 
 pub fund-customer-spec : {M : Type 1} → statement M
 fund-customer-spec =

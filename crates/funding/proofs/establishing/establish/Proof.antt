@@ -9,19 +9,21 @@ returns : tie.Need-returns
 unfolding ruling establish
 returns c =
     let c₂ = c .before .before in
-    let c₄ = c₂ .before .before in
+    let c₃ = c₂ .before in
+    let c₄ = c₃ .before in
     let c₅ = c₄ .before in
     let c₆ = c₅ .before in
     let c₇ = c₆ .before in
     let c₈ = c₇ .before in
-    let c₁₀ = c₈ .before .before in
-    let c₁₁ = c₁₀ .before in
-    c .ruled .ensures ∙ rw (c₂ .tested4 .ensures .0, c₁₁ .total-fits .ensures, c₄ .tested3 .ensures .0, c₅ .delay-fits .ensures, c₆ .tested2 .ensures .0, c₇ .keys-fit .ensures, c₈ .tested .ensures .0, c₁₀ .unjudged .ensures .0, c .before .delay-or-default .ensures)
+    let c₉ = c₈ .before in
+    let c₁₁ = c₉ .before .before in
+    c .ruled .ensures ∙ rw (c₃ .tested4 .ensures .0, c₄ .deposits-fit .ensures, c₅ .tested3 .ensures .0, c₆ .delay-fits .ensures, c₇ .tested2 .ensures .0, c₈ .keys-fit .ensures, c₉ .tested .ensures .0, c₁₁ .unjudged .ensures .0, c₂ .status-awaiting .ensures, c .before .delay-or-default .ensures)
 
 pub establish-spec : {M : Type 1} → statement M
 establish-spec =
     tie.close
     (tie.spec
+    (λ c κs. search needs)
     (λ c κs. search needs)
     (λ c κs. search needs)
     (λ c κs. search needs)

@@ -1,0 +1,43 @@
+//! What went in and out of each channel of a journal, by its commands and their answers alone.
+use crate::pair::{same, Outcome};
+use finaruvom::Book;
+use oracle::{Answer, CHANNELS};
+
+/// The sums of one channel.
+#[derive(Clone, Copy, Default)]
+struct Account {
+    deposits: u128,
+    paid: u128,
+}
+
+/// The sums of every channel.
+pub struct Ledger([Account; CHANNELS]);
+
+impl Ledger {
+    /// The ledger of a fresh book.
+    pub fn new() -> Ledger {
+        Ledger([Account::default(); CHANNELS])
+    }
+
+    /// Enters a command that was accepted.
+    pub fn enter(&mut self, command: &[u8], answer: &Answer) {
+        let [opcode @ 0x02..=0x0a, _, low, operands @ ..] = command else {
+            return;
+        };
+        let account = &mut self.0[usize::from(*low)];
+        if let (0x03 | 0x04, Some(cents)) = (opcode, operands.first_chunk()) {
+            account.deposits += u128::from(u64::from_be_bytes(*cents));
+        }
+        account.paid += u128::from(answer.customer) + u128::from(answer.merchant);
+    }
+
+    /// Whether each channel holds its deposits less what was paid of them.
+    pub fn balanced(&self, book: &Book) -> Outcome {
+        for (n, account) in self.0.iter().enumerate() {
+            let reading = book.read(n).map_err(|refusal| refusal.to_string())?;
+            let kept = u128::from(reading.held.0) + account.paid;
+            same(&format!("deposits of {n}"), &kept, &account.deposits)?;
+        }
+        Ok(())
+    }
+}
