@@ -3,12 +3,13 @@ use crate::wallet::bits_apart;
 use oracle::{digest, Book, PLAIN_DEFAULT, TYPES};
 
 /// The kinds that every run must meet.
-pub const KINDS: [&str; 18] = [
+pub const KINDS: [&str; 19] = [
     EQUAL,
     IDENTIFIERS,
     ROOTS,
     DEFAULT_READ,
     NO_DEPOSIT,
+    NO_FUNDING,
     LOCK_START,
     LOCK_MIDDLE,
     LOCK_END,
@@ -29,6 +30,7 @@ const IDENTIFIERS: &str = "02 accepted with identifiers one bit apart";
 const ROOTS: &str = "02 accepted with roots one bit apart";
 const DEFAULT_READ: &str = "02 accepted with a delay of 0 and another default than the plain one";
 const NO_DEPOSIT: &str = "02 refused for deposits of 0 and 0";
+const NO_FUNDING: &str = "03 of 0 refused where the customer deposits nothing";
 const LOCK_START: &str = "09 refused for a bit in the lock's first byte";
 const LOCK_MIDDLE: &str = "09 refused for a bit between";
 const LOCK_END: &str = "09 refused for a bit in the lock's last byte";
@@ -59,6 +61,11 @@ pub fn kind(book: &Book, command: &[u8], refusal: u8) -> Option<&'static str> {
             keys(&operands[..56], &operands[56..112]).or(rest)
         }
         ([0x02, _, _, operands @ ..], 8) => (operands[112..128] == [0; 16]).then_some(NO_DEPOSIT),
+        ([0x03, _, low, cents @ ..], 5) => {
+            let channel = &book.channels[usize::from(*low)];
+            let nothing = channel.status == 2 && channel.customer.deposit == 0;
+            (nothing && cents == [0; 8]).then_some(NO_FUNDING)
+        }
         ([0x09, _, low, operands @ ..], 10) => {
             let lock = &book.channels[usize::from(*low)].lock;
             secret(&operands[..32], lock)

@@ -1,5 +1,5 @@
-//! What went in and out of each channel of a journal, by its commands and their answers alone.
-use crate::pair::{same, Outcome};
+//! What went in and out of each channel of a book, by its commands and their answers alone.
+use crate::pair::Outcome;
 use finaruvom::Book;
 use oracle::{Answer, CHANNELS};
 
@@ -19,24 +19,27 @@ impl Ledger {
         Ledger([Account::default(); CHANNELS])
     }
 
-    /// Enters a command that was accepted.
-    pub fn enter(&mut self, command: &[u8], answer: &Answer) {
-        let [opcode @ 0x02..=0x0a, _, low, operands @ ..] = command else {
-            return;
-        };
-        let account = &mut self.0[usize::from(*low)];
-        if let (0x03 | 0x04, Some(cents)) = (opcode, operands.first_chunk()) {
-            account.deposits += u128::from(u64::from_be_bytes(*cents));
+    /// Enters a command that was accepted, and asks whether the book is balanced after it.
+    pub fn enter(&mut self, command: &[u8], answer: &Answer, book: &Book) -> Outcome {
+        if let [opcode @ 0x02..=0x0a, _, low, operands @ ..] = command {
+            let account = &mut self.0[usize::from(*low)];
+            if let (0x03 | 0x04, Some(cents)) = (opcode, operands.first_chunk()) {
+                account.deposits += u128::from(u64::from_be_bytes(*cents));
+            }
+            account.paid += u128::from(answer.customer) + u128::from(answer.merchant);
         }
-        account.paid += u128::from(answer.customer) + u128::from(answer.merchant);
+        self.balanced(book)
     }
 
-    /// Whether each channel holds its deposits less what was paid of them.
-    pub fn balanced(&self, book: &Book) -> Outcome {
-        for (n, account) in self.0.iter().enumerate() {
+    /// Whether what each channel holds and what it paid are together its deposits.
+    fn balanced(&self, book: &Book) -> Outcome {
+        for (n, Account { deposits, paid }) in self.0.iter().enumerate() {
             let reading = book.read(n).map_err(|refusal| refusal.to_string())?;
-            let kept = u128::from(reading.held.0) + account.paid;
-            same(&format!("deposits of {n}"), &kept, &account.deposits)?;
+            let held = u128::from(reading.held.0);
+            if held + paid != *deposits {
+                let text = format!("channel {n} holds {held} and paid {paid} of {deposits}");
+                return Err(text);
+            }
         }
         Ok(())
     }

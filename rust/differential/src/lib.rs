@@ -5,6 +5,7 @@ pub mod bridge;
 mod fence;
 mod kinds;
 mod ledger;
+pub mod lives;
 mod maker;
 mod options;
 mod pair;

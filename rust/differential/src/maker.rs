@@ -114,14 +114,14 @@ impl<'a> Maker<'a> {
         self.plan(book, n, opcode)
     }
 
-    /// A command that the channel's status allows, where there is one.
+    /// A command that the channel's status allows, where there is one; at times a second 03.
     fn fitting(&mut self, book: &Book, n: u16) -> u8 {
         let channel = &book.channels[usize::from(n)];
         let early = book.clock < channel.deadline;
         match channel.status {
             0 => 2,
             1 => 3,
-            2 => self.rng.pick(&[4, 4, 4, 5]),
+            2 => self.rng.pick(&[3, 4, 4, 4, 4, 4, 5, 5]),
             3 => self.rng.pick(&[6, 7, 7, 8, 8]),
             4 if early => self.rng.pick(&[1, 7, 7, 10]),
             4 => self.rng.pick(&[7, 10, 10]),

@@ -1,4 +1,5 @@
 //! The kinds of cases. A case depends on its seed alone.
+mod accounts;
 mod books;
 mod boundary;
 mod faults;
@@ -34,6 +35,7 @@ pub struct Part {
 /// All kinds.
 pub const PARTS: &[Part] = &[
     part("journals", journals::case),
+    part("accounts", accounts::case),
     part("strings", strings::case),
     part("books", books::case),
     part("faults", faults::case),

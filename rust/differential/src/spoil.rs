@@ -37,18 +37,19 @@ fn rename(rng: &mut Rng, plan: &mut Plan) {
     }
 }
 
-/// Numbers off by one, at an edge, changed over, or with a sum that runs over 2^64 to the right
-/// one.
+/// Numbers off by one, at an edge, changed over, one or both 0, or with a sum that runs over 2^64 to
+/// the right one.
 fn numbers(rng: &mut Rng, plan: &mut Plan) {
     let at = rng.below(2);
     let [first, second] = plan.numbers;
-    match rng.below(7) {
+    match rng.below(8) {
         0 => plan.numbers[at] = plan.numbers[at].wrapping_add(1),
         1 => plan.numbers[at] = plan.numbers[at].wrapping_sub(1),
         2 => plan.numbers[at] = rng.edge(),
         3 => plan.numbers = [rng.edge(), rng.edge()],
         4 => plan.numbers = [second, first],
         5 => plan.numbers[at] = 0,
+        6 => plan.numbers = [0, 0],
         _ => plan.numbers = [u64::MAX, first.wrapping_add(second).wrapping_add(1)],
     }
 }

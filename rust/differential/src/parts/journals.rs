@@ -34,8 +34,7 @@ pub fn case(rng: &mut Rng, world: &mut World) -> Outcome {
             world.tally.compared(kind);
         }
         if answer.refusal == 0 {
-            ledger.enter(&command, &answer);
-            ledger.balanced(&pair.library)?;
+            ledger.enter(&command, &answer, &pair.library)?;
             maker.remember(command);
         }
     }
