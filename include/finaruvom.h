@@ -93,7 +93,7 @@ enum finaruvom_refusal {
 enum finaruvom_status {
     FINARUVOM_UNUSED = 0,
     FINARUVOM_AWAITING_CUSTOMER = 1, // the customer's deposit is still to come
-    FINARUVOM_AWAITING_MERCHANT = 2, // after the customer's funding, or at once after an 02 in which the customer deposits nothing
+    FINARUVOM_AWAITING_MERCHANT = 2, // after the customer's funding, or at once after a 02 in which the customer deposits nothing
     FINARUVOM_OPEN = 3,
     FINARUVOM_MERCHANT_CLOSING = 4,
     FINARUVOM_CUSTOMER_CLOSING = 5,

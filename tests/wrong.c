@@ -108,6 +108,11 @@ struct finaruvom_answer finaruvom_apply(struct finaruvom_book *book, const uint8
         book->channels[i].merchant = customer;
     }
 #endif
+#ifdef AWAITS_THE_CUSTOMER
+    for (int i = 0; command_n == 135 && i < 64; i++)
+        if (book->channels[i].status == FINARUVOM_AWAITING_MERCHANT && book->channels[i].customer.deposit == 0)
+            book->channels[i].status = FINARUVOM_AWAITING_CUSTOMER;
+#endif
 #ifdef NO_STEPS
     answer.steps = 0;
 #endif
