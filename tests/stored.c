@@ -1,4 +1,4 @@
-// Stored books: stored FOLDER, which has a book of each layout, written after 18 commands of the sample journal. This layout's is read as it was
+// Stored books: stored FOLDER, which has a book of each layout, written after 18 commands of examples/week.journal. This layout's is read as it was
 // written; every other, and one with a default delay out of range, is answered with 99, and an opening over it leaves the bytes of every fresh book.
 #include "../include/finaruvom.h"
 #include <stdio.h>

@@ -37,9 +37,11 @@ record Applied : Type 0 where
   agreed : 1000 ≡ 0 + 400 + 600
   disputed : paid (strings 5 ((standing (list ++ disputes 5 ∷ [])) .history)) ≡ pays 0 1000
   split : paid (strings 2 ((standing list) .history)) ≡ pays 400 600
-  credited : (step yes plain ((standing list) .book) (disputes 7)) .answer .refusal ≡ 0
+  credit-accepted : (step yes plain ((standing list) .book) (disputes 7)) .answer .refusal ≡ 0
   credit-closing : 100 ≡ 70 + 0 + 30
+  credit-over : 100 ≡ 0 + 0 + 100
   credit-disputed : paid (strings 7 ((standing (list ++ disputes 7 ∷ [])) .history)) ≡ pays 0 100
+  unfunded : 0 ≡ 0 + 0 + 0
   reclaimed : paid (strings 8 ((standing list) .history)) ≡ pays 0 0
   refused : paidBy ((entryAt ((standing list) .history) 10) .answer) ≡ nothing
   timed : paidBy ((entryAt ((standing list) .history) 15) .answer) ≡ nothing
@@ -51,6 +53,8 @@ applied =
     let after = accounted (list ++ disputes 5 ∷ []) 5 (omega arith) in
     let both = accounted list 2 (omega arith) in
     let credit = accounted list 7 (omega arith) in
+    let credit-after = accounted (list ++ disputes 7 ∷ []) 7 (omega arith) in
+    let returned = accounted list 8 (omega arith) in
     record {
       accepted = before .dispute (record { closing = refl; undisputed = refl; unsettled = refl; early = omega arith }) (disputes 5) (record { code = refl; whole = refl; named = refl; opens = refl; good = refl });
       closing = before .conserved;
@@ -58,10 +62,12 @@ applied =
       agreed = both .conserved;
       disputed = after .disputed refl;
       split = both .splits refl;
-      credited = credit .dispute (record { closing = refl; undisputed = refl; unsettled = refl; early = omega arith }) (disputes 7) (record { code = refl; whole = refl; named = refl; opens = refl; good = refl });
+      credit-accepted = credit .dispute (record { closing = refl; undisputed = refl; unsettled = refl; early = omega arith }) (disputes 7) (record { code = refl; whole = refl; named = refl; opens = refl; good = refl });
       credit-closing = credit .conserved;
-      credit-disputed = (accounted (list ++ disputes 7 ∷ []) 7 (omega arith)) .disputed refl;
-      reclaimed = (accounted list 8 (omega arith)) .splits refl;
+      credit-over = credit-after .conserved;
+      credit-disputed = credit-after .disputed refl;
+      unfunded = returned .conserved;
+      reclaimed = returned .splits refl;
       refused = before .elsewhere 10 (omega arith) refl;
       timed = before .elsewhere 15 (omega arith) refl;
     }

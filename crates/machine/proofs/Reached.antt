@@ -1,7 +1,7 @@
 -- A list by computing, so that the third demand speaks of books that are reached, with a check that always says yes and a hash that changes
 -- nothing, on a book opened with the desk's settings: channel 2 is closed by both; the customer closes channels 5 and 7, whose 02 has the delay
--- 0, and there is no 08; the clock shows the last second before the deadline of the default. Only the merchant funds channel 7, and channel 8,
--- which is reclaimed before.
+-- 0, and there is no 08; the clock shows the last second before the deadline of the default. Channels 7 and 8 are the
+-- merchant's alone to fund; channel 8 is reclaimed before he does.
 use mathlib.Core.Path.{_≡_, refl}
 use mathlib.Core.Bool.{true}
 use mathlib.Core.List.{List, [], _∷_, _++_}
@@ -87,9 +87,9 @@ record Reached (t : Standing) : Type 0 where
   steps : (step yes plain (t .book) (disputes 5)) .answer .steps ≡ 510
   settles : (step yes plain (t .book) (10 ∷ two 5)) .answer .refusal ≡ 9
   late : (step yes plain ((step yes plain (t .book) (clocks 173800)) .book) (disputes 5)) .answer .refusal ≡ 9
-  credited : (step yes plain (t .book) (disputes 7)) .answer .merchant .0 ≡ 70
+  credit-pays : (step yes plain (t .book) (disputes 7)) .answer .merchant .0 ≡ 70
   reclaimed : (reading (t .book) 8) .status ≡ 6
 
 reached : Reached (standing list)
 unfolding yes plain standing u16At u32At u64At same size message total held soundChannel sound fresh readChannel reading ask delayed keyed establish fundCustomer fundMerchant reclaim mutualClose customerClose merchantClose dispute settle answer concluded ruling verdict plan step after
-reached = record { status = refl; holds = refl; deadline = refl; disputed = refl; pays = refl; steps = refl; settles = refl; late = refl; credited = refl; reclaimed = refl }
+reached = record { status = refl; holds = refl; deadline = refl; disputed = refl; pays = refl; steps = refl; settles = refl; late = refl; credit-pays = refl; reclaimed = refl }

@@ -1,6 +1,5 @@
--- The starred figures: the rules by computing, the chain steps by the law of `lms`.
-use mathlib.Core.Path.{_≡_, refl}
-use mathlib.Core.Bool.{true}
+-- The starred figures, and those of document 02, No. 2: the rules by computing, the chain steps by the law of `lms`.
+use mathlib.Core.Path.{refl}
 use mathlib.Core.List.{List}
 use Prim.Native.Nat.{ℕ}
 use lib.ListN.{replicate}
@@ -8,15 +7,15 @@ use Rattle.lms.specs.OneTime.{deficit}
 use Rattle.lms.proofs.StepLaw.{stepLaw}
 use Rattle.machine.specs.Book.{total, held, readChannel}
 use Rattle.machine.specs.Checks.{ask}
-use Rattle.machine.specs.Rules.{keyed, establish, fundCustomer, fundMerchant, reclaim, mutualClose, customerClose, dispute, settle}
+use Rattle.machine.specs.Rules.{establish, fundCustomer, fundMerchant, reclaim, mutualClose, customerClose, dispute, settle}
 use Rattle.machine.specs.Machine.{answer, concluded, ruling}
 use Rattle.machine.specs.Figures.{Figures}
 use Rattle.machine.specs.declared.state.Setup.{Setup}
 use Rattle.machine.proofs.Laws.{same-refl}
 
-pub figures : (key other lock id : List ℕ) (d x v w : ℕ) (setup : Setup) (fit : keyed key other ≡ true) → Figures key other lock id d x v w setup fit
+pub figures : (key other lock id : List ℕ) (d x v w : ℕ) (setup : Setup) → Figures key other lock id d x v w setup
 unfolding deficit total held readChannel ask establish fundCustomer fundMerchant reclaim mutualClose customerClose dispute settle answer concluded ruling
-figures key other lock id d x v w setup fit = record {
+figures key other lock id d x v w setup = record {
   funds-900 = refl;
   funds-899 = refl;
   funds-100 = refl;
@@ -28,15 +27,15 @@ figures key other lock id d x v w setup fit = record {
   disputes-at-4600 = refl;
   settles-at-4599 = refl;
   settles-at-4600 = refl;
-  credits-100 = rw fit;
+  credits-100 = λ fit. rw fit;
   credits-reclaimed = refl;
   credits-funded = refl;
   credits-customer = refl;
-  credits-nothing = rw fit;
-  credits-most = rw fit;
-  credits-more = rw fit;
-  sums-to-more = rw fit;
-  customer-alone = rw fit;
+  credits-nothing = λ fit. rw fit;
+  credits-most = λ fit. rw fit;
+  credits-more = λ fit. rw fit;
+  sums-to-more = λ fit. rw fit;
+  customer-alone = λ fit. rw fit;
   steps-of-FF = stepLaw .law (replicate 32 255) refl;
   steps-of-00 = stepLaw .law (replicate 32 0) refl;
 }

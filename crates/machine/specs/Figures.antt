@@ -45,8 +45,7 @@ by rule ch = shown (ruling ch (rule ch))
 abbrev pub good : ℕ → Verdict
 good steps = record { good = true; steps = steps }
 
--- With any keys that two parties may have, any lock, any deadline d and kept part x before a closing, any step counts v and w, and any id and
--- setup of the book.
+-- With any keys and lock, any deadline d and kept part x before a closing, any step counts v and w, and any id and setup of the book.
 module _ (key other lock id : List ℕ) (d x v w : ℕ) (setup : Setup) where
   -- A book whose clock shows this time.
   abbrev pub showing : ℕ → Context
@@ -72,11 +71,11 @@ module _ (key other lock id : List ℕ) (d x v w : ℕ) (setup : Setup) where
   abbrev pub credit : ℕ → ℕ → ℕ → Channel
   credit = account 0 100
 
-  -- A 02 with these deposits, on a channel that is not used.
-  abbrev pub agreeing : ℕ → ℕ → Row
-  agreeing customer merchant = by (establish (showing 1000) (party key customer) (party other merchant) 3600) (example 0 d x)
+  -- What a 02 with these deposits shows on a channel that is not used, where check 6 passes the keys.
+  abbrev pub Agreeing : ℕ → ℕ → Row → Type 0
+  Agreeing customer merchant r = keyed key other ≡ true → by (establish (showing 1000) (party key customer) (party other merchant) 3600) (example 0 d x) ≡ r
 
-  pub record Figures (fit : keyed key other ≡ true) : Type 0 where
+  pub record Figures : Type 0 where
     pub funds-900 : by (fundCustomer 900) (example 1 d x) ≡ row 0 0 0 2 900 0
     pub funds-899 : by (fundCustomer 899) (example 1 d x) ≡ row 8 0 0 1 0 0
     pub funds-100 : by (fundMerchant 100) (example 2 d x) ≡ row 0 0 0 3 1000 0
@@ -88,14 +87,14 @@ module _ (key other lock id : List ℕ) (d x v w : ℕ) (setup : Setup) where
     pub disputes-at-4600 : by (dispute (showing 4600) lock (good v)) (example 5 4600 700) ≡ row 9 0 0 5 700 4600
     pub settles-at-4599 : by (settle (showing 4599)) (example 5 4600 700) ≡ row 9 0 0 5 700 4600
     pub settles-at-4600 : by (settle (showing 4600)) (example 5 4600 700) ≡ row 0 700 0 6 0 0
-    pub credits-100 : agreeing 0 100 ≡ row 0 0 0 2 0 0
+    pub credits-100 : Agreeing 0 100 (row 0 0 0 2 0 0)
     pub credits-reclaimed : by (reclaim (good v)) (credit 2 d x) ≡ row 0 0 0 6 0 0
     pub credits-funded : by (fundMerchant 100) (credit 2 d x) ≡ row 0 0 0 3 100 0
     pub credits-customer : by (fundCustomer 0) (credit 2 d x) ≡ row 5 0 0 2 0 0
-    pub credits-nothing : agreeing 0 0 ≡ row 8 0 0 0 0 0
-    pub credits-most : agreeing 0 (2 ^ 63 - 1) ≡ row 0 0 0 2 0 0
-    pub credits-more : agreeing 0 (2 ^ 63) ≡ row 8 0 0 0 0 0
-    pub sums-to-more : agreeing (2 ^ 63 - 1) 1 ≡ row 8 0 0 0 0 0
-    pub customer-alone : agreeing 900 0 ≡ row 0 0 0 1 0 0
+    pub credits-nothing : Agreeing 0 0 (row 8 0 0 0 0 0)
+    pub credits-most : Agreeing 0 (2 ^ 63 - 1) (row 0 0 0 2 0 0)
+    pub credits-more : Agreeing 0 (2 ^ 63) (row 8 0 0 0 0 0)
+    pub sums-to-more : Agreeing (2 ^ 63 - 1) 1 (row 8 0 0 0 0 0)
+    pub customer-alone : Agreeing 900 0 (row 0 0 0 1 0 0)
     pub steps-of-FF : stepCount (replicate 32 255) ≡ 510
     pub steps-of-00 : stepCount (replicate 32 0) ≡ 8415

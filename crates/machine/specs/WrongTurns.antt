@@ -49,7 +49,7 @@ pub record Establishes (at : Context) (customer merchant : Party) (ch : Channel)
   pub kept : (d : ℕ) → ((establish at customer merchant d ch) .channel) .kept ≡ ch .kept
   pub lock : (d : ℕ) → ((establish at customer merchant d ch) .channel) .lock ≡ ch .lock
 
--- A 02 that passes all checks before 8: both deposits 0 are refused, one of them is not; nor is the sum up to 2^63 - 1.
+-- A 02 that passes all checks before 8: refused with 8 where both deposits are 0 or their sum is above 2^63 - 1, else accepted.
 pub record Deposits (at : Context) (customer merchant : Party) (d : ℕ) (ch : Channel) : Type 0 where
   pub none : customer .deposit .0 ≡ 0 → merchant .deposit .0 ≡ 0 → answered ch (establish at customer merchant d ch) ≡ refusal 8 0
   pub large : limit < customer .deposit .0 + merchant .deposit .0 → answered ch (establish at customer merchant d ch) ≡ refusal 8 0

@@ -38,7 +38,7 @@ const LOCK_END: &str = "09 refused for a bit in the lock's last byte";
 /// A lock that a 07 of the same journal filed.
 pub const FILED: &str = "09 refused for a bit of the lock in its 07";
 
-/// What became of an account in a journal that only the merchant funds.
+/// What became of an account that only the merchant funds.
 const OPENED: &str = "04 accepted where the customer deposits nothing";
 const RECLAIMED: &str = "05 accepted where the customer deposits nothing";
 const CLOSED: &str = "06 accepted where the customer deposits nothing";

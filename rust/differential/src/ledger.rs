@@ -44,3 +44,26 @@ impl Ledger {
         Ok(())
     }
 }
+
+#[cfg(test)]
+mod tests {
+    use super::*;
+
+    /// A book that holds nothing of a funding, or has not paid what was answered.
+    #[test]
+    fn unbalanced() {
+        let book = Book::open(&[0; 16]).unwrap();
+        let cents = 100u64.to_be_bytes();
+        let funding = [&[0x04, 0, 5][..], &cents].concat();
+        let paying = Answer {
+            merchant: 100,
+            ..Answer::default()
+        };
+        let enter = |command: &[u8], answer: &Answer| Ledger::new().enter(command, answer, &book);
+        let kept = enter(&funding, &Answer::default());
+        let told = enter(&[0x0a, 0, 63], &paying);
+        assert_eq!(kept.unwrap_err(), "channel 5 holds 0 and paid 0 of 100");
+        assert_eq!(told.unwrap_err(), "channel 63 holds 0 and paid 100 of 0");
+        assert_eq!(enter(&funding, &paying), Ok(()));
+    }
+}

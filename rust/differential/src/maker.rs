@@ -114,7 +114,7 @@ impl<'a> Maker<'a> {
         self.plan(book, n, opcode)
     }
 
-    /// A command that the channel's status allows, where there is one; at times a second 03.
+    /// A command that the channel's status allows, where there is one; at times a 03 too many.
     fn fitting(&mut self, book: &Book, n: u16) -> u8 {
         let channel = &book.channels[usize::from(n)];
         let early = book.clock < channel.deadline;

@@ -3,8 +3,8 @@ use super::writer::Writer;
 use crate::sizes::{ID_SIZE, KEY_SIZE, SIGNATURE_SIZE};
 use crate::units::Cents;
 
-/// 02: establishes a channel. Its number is used once in a book. It awaits the customer, or at once
-/// the merchant where the customer deposits nothing.
+/// 02: establishes a channel, whose number is used once in a book. The channel awaits the customer,
+/// or at once the merchant where the customer deposits nothing.
 ///
 /// ```
 /// use finaruvom::command::Establish;
