@@ -42,7 +42,8 @@ fn delay_or_default(default: u64, delay: u32) -> u32
 fn deposits_fit(customer: Cents, merchant: Cents) -> bool
     ensures { λ r. ⌜ r ≡ depositsFit (customer .0) (merchant .0) ⌝ }
 {
-    ((1 <= customer.0) | (1 <= merchant.0)) & total_fits(customer, merchant)
+    let some = (1 <= customer.0) | (1 <= merchant.0);
+    total_fits(customer, merchant) & some
 }
 
 fn establish(ch: Channel, at: Context, customer: Party, merchant: Party, delay: u32) -> Ruled

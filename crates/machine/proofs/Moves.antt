@@ -8,7 +8,7 @@ use lib.Dec.{eqb, leb}
 use borrow.Author.Tests.{eqb-true, leb-true, ne-eqb}
 use Rattle.machine.specs.Checks.{Verdict}
 use Rattle.machine.specs.Format.{opcode, amount, customerDeposit, merchantDeposit, delay, customerPart, merchantPart, lock}
-use Rattle.machine.specs.Book.{shortest, longest, ranged, agreed, total, held, soundSetup}
+use Rattle.machine.specs.Book.{limit, shortest, longest, ranged, agreed, total, held, soundSetup}
 use Rattle.machine.specs.Rules.{Plan, moved, become, delayed, delayFits, established, establish, fundCustomer, fundMerchant, reclaim, mutualClose, customerClose, merchantClose, dispute, settle}
 use Rattle.machine.specs.Machine.{customerOf, merchantOf, plan}
 use Rattle.machine.specs.Ledger.{Event, deposits, sum, opcodes, member, tally, has, count, eventOf, closings, agreedCustomer, agreedTotal, paid, allMerchant, split}
@@ -126,9 +126,9 @@ module _ (l : List Event) (s : List ℕ) (a : Answer) (k : ℕ) where
     establishes o p pc pm g =
         let e : l ≡ [] = found 0 (p .0) g in
         let d = delayed-fits (setup .delay) fixed (delay s) (p .1 .1 .0) in
-        let f = and-both (leb 1 (customerDeposit s + merchantDeposit s)) _ (p .1 .1 .1 .0) in
+        let f = and-both (leb (customerDeposit s + merchantDeposit s) limit) _ (p .1 .1 .1 .0) in
         let ch = established (setup .delay) (customerOf s) (merchantOf s) (delay s) c in
-        let t : TermsOf setup (next ∷ l) ch = rw (event-next 2 (rw o)) (record { there = rw o; customer = refl; merchant = refl; delays = refl; signer = refl; fits = leb-true _ _ (f .1); least = d .0; most = d .1 }) in
+        let t : TermsOf setup (next ∷ l) ch = rw (event-next 2 (rw o)) (record { there = rw o; customer = refl; merchant = refl; delays = refl; signer = refl; fits = leb-true _ _ (f .0); least = d .0; most = d .1 }) in
         let w = lacks-on unfunded (rw o) (rw e (lacks-none unfunded)) in
         let m : Money (next ∷ l) 0 0 0 = omega (arith, no-funds (rw o), pays-customer, pays-merchant, ap deposits e, ap (λ x. (paid x) .customer) e, ap (λ x. (paid x) .merchant) e) in
         let go : (b : Bool) → eqb (customerDeposit s) 0 ≡ b → StageAt setup (next ∷ l) ch (cond b 2 1) = elim [

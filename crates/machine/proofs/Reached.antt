@@ -1,7 +1,7 @@
 -- A list by computing, so that the third demand speaks of books that are reached, with a check that always says yes and a hash that changes
 -- nothing, on a book opened with the desk's settings: channel 2 is closed by both; the customer closes channels 5 and 7, whose 02 has the delay
--- 0, and there is no 08; the clock shows the last second before the deadline of the default. Channels 7 and 8 are the
--- merchant's alone to fund; channel 8 is reclaimed before he does.
+-- 0, and there is no 08; the clock shows the last second before the deadline of the default. Channels 7 and 8 are the merchant's alone to
+-- fund; channel 8 is reclaimed before he does.
 use mathlib.Core.Path.{_≡_, refl}
 use mathlib.Core.Bool.{true}
 use mathlib.Core.List.{List, [], _∷_, _++_}

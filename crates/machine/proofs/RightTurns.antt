@@ -143,7 +143,7 @@ module _ (check : List ℕ → List ℕ → List ℕ → Verdict) (hash : List �
     delay-first = λ at customer merchant d ch e k n. rw (e, k, n);
     deposits = λ at customer merchant d ch e k f. record {
       none = λ c b. rw (e, k, f, c, b);
-      large = λ h. rw (e, k, f, le-leb 1 (customer .deposit .0 + merchant .deposit .0) (omega (arith, h)), lt-leb _ _ h);
+      large = λ h. rw (e, k, f, lt-leb _ _ h);
       some = λ h i. rw (e, k, f, le-leb _ _ h, le-leb _ _ i);
     };
     keys = compares-keys;

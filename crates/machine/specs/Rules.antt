@@ -60,7 +60,7 @@ delayFits d = eqb d 0 || ranged d
 
 -- Check 8 of 02: the sum is 1 to 2^63 - 1, as whole numbers.
 abbrev pub depositsFit : ℕ → ℕ → Bool
-depositsFit c b = leb 1 (c + b) && leb (c + b) limit
+depositsFit c b = leb (c + b) limit && leb 1 (c + b)
 
 -- Status 1, or 2 where D_c is 0. The keys, the deposits, the delay and the status are named: deadline, kept part and lock stay.
 abbrev pub established : ℕ → Party → Party → ℕ → Channel → Channel
