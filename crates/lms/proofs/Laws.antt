@@ -2,16 +2,19 @@
 use Prim.Native.Nat.{ℕ, suc, _+_, _-_, _*_, _/_, _%_, _^_, _≤_, _<_}
 use native.Mathlib.Numerals.{add-one}
 use native.Mathlib.Omega.{arith}
-use mathlib.Core.Path.{_≡_, refl, ap, sym, _∙_}
+use mathlib.Core.Path.{_≡_, refl, ap, sym, subst, _∙_}
 use mathlib.Core.List.{List, [], _∷_, _++_, append-assoc, append-nil}
 use lib.ListN.{length, take, drop, getD, set, replicate, length-append, length-set}
 use lib.Seq.{paste, set-at, take-at, take-all, take-suc-set, take-length, drop-append-add, length-take-le, take-suc}
 use Rattle.wire.specs.Numbers.{bytes}
 use Rattle.wire.proofs.Laws.{both}
+use Rattle.sha256.specs.declared.state.Sha256.{Sha256}
 use Rattle.sha256.specs.Digest.{digestOf, sha256}
+use Rattle.sha256.specs.State.{Taken}
 use Rattle.lms.specs.Layout.{string}
 use Rattle.lms.specs.OneTime.{deficit, checksum, digits, chainStep, walk, chainEnd, ends}
-use Rattle.lms.specs.Walked.{chainStart}
+use Rattle.lms.specs.Begun.{Begun}
+use Rattle.lms.specs.Walked.{chainStart, Fed}
 
 pub digest-length : (m : List ℕ) → length (sha256 m) ≡ 32
 unfolding sha256 digestOf bytes
@@ -88,6 +91,11 @@ started I b lI lb =
     ∙ ap (λ (l : List ℕ). I ++ l ++ drop (16 + length b) (I ++ z)) (take-length b)
     ∙ ap (λ (l : List ℕ). I ++ b ++ l) d
 
+-- The identifier that they begin with.
+pub begins : (I s : List ℕ) (q : ℕ) → length I ≡ 16 → s ≡ chainStart I q → I ≡ take 16 s
+begins I s q l e =
+    sym (ap (take 16) (e ∙ append-assoc I (bytes 4 q) (0 ∷ 0 ∷ 0 ∷ [])) ∙ take-at I (bytes 4 q ++ 0 ∷ 0 ∷ 0 ∷ []) 16 l)
+
 -- The chain's number is written into it.
 pub numbered : (I s : List ℕ) (q i : ℕ) → length I ≡ 16 → i < 256 → s ≡ chainStart I q → take 22 (set s 21 i) ≡ I ++ bytes 4 q ++ bytes 2 i
 unfolding bytes
@@ -111,6 +119,7 @@ ends-more I ds signature b e q n p =
     ∙ ap (λ (x : List ℕ). b ++ (ends I q ds signature n ++ x)) p
     ∙ ap (λ (k : ℕ). b ++ ends I q ds signature k) (sym (add-one n))
 
-pub no-ends : (I ds signature b : List ℕ) (q : ℕ) → b ≡ b ++ ends I q ds signature 0
-unfolding ends
-no-ends I ds signature b q = sym (append-nil b)
+-- Before the first chain.
+pub none-fed : (I ds signature : List ℕ) (q : ℕ) (s : Sha256) → Begun I q 0x80 s → Fed I q ds signature 0 s
+unfolding ends bytes
+none-fed I ds signature q s b = record { count = b .count; taken = subst (Taken s) (sym (append-nil (I ++ bytes 4 q ++ bytes 2 0x8080))) (b .taken) }

@@ -11,13 +11,13 @@ use Rattle.sha256.specs.Digest.{sha256}
 unfoldable pub leafNode : List ℕ → ℕ → List ℕ → List ℕ
 leafNode I node key = sha256 (I ++ bytes 4 node ++ bytes 2 0x8282 ++ key)
 
--- A node's value and its sibling's, the left child first: an odd node is the right child.
-abbrev pub children : ℕ → List ℕ → List ℕ → List ℕ
-children node x sibling = cond (eqb (node % 2) 1) (sibling ++ x) (x ++ sibling)
+-- An inner node by its children: H(I, node, 8383, left child, right child).
+unfoldable pub innerNode : List ℕ → ℕ → List ℕ → List ℕ → List ℕ
+innerNode I node left right = sha256 (I ++ bytes 4 node ++ bytes 2 0x8383 ++ left ++ right)
 
--- The parent p = node / 2: H(I, p, 8383, left child, right child).
+-- The parent node / 2 of a node with value x: an odd node is the right child.
 unfoldable pub parentOf : List ℕ → ℕ → List ℕ → List ℕ → List ℕ
-parentOf I node x sibling = sha256 (I ++ bytes 4 (node / 2) ++ bytes 2 0x8383 ++ children node x sibling)
+parentOf I node x sibling = cond (eqb (node % 2) 1) (innerNode I (node / 2) sibling x) (innerNode I (node / 2) x sibling)
 
 -- The value n levels above a node with value x, with the siblings on the way.
 unfoldable pub climb : List ℕ → ℕ → List ℕ → List (List ℕ) → ℕ → List ℕ

@@ -1,12 +1,13 @@
 // The one-time signature: the hash of the message, its digits, the chains and the leaf key.
 ghost use mathlib.Core.Path.{_≡_};
 ghost use mathlib.Core.List.{List};
-ghost use Prim.Native.Nat.{ℕ, _-_, _≤_, _<_};
+ghost use Prim.Native.Nat.{ℕ, _+_, _-_, _^_, _≤_, _<_};
 ghost use lib.ListN.{length, take};
 ghost use Rattle.lms.specs.Layout.{string};
 ghost use Rattle.lms.specs.OneTime.{messageHash, digits, stepCount, walk, chainEnd};
-ghost use Rattle.lms.specs.Walked.{chainStart, walkedOf};
+ghost use Rattle.lms.specs.Walked.{chainStart, Fed, walkedOf};
 use crate::prefix::begun;
+use sha256::Sha256;
 use sha256::hash_pair;
 use wire::copy_into;
 use wire::digest_at;
@@ -89,6 +90,21 @@ fn chain_end(start: [u8; 23], i: usize, digit: u8, signature: &[u8]) -> [u8; 32]
     chain(numbered, digit, digest_at(signature, 40 + 32 * i))
 }
 
+// One chain: where the state is that of I, q, 8080 and the first i ends, the result is that of I, q, 8080 and the first i + 1.
+fn feed_chain(
+    state: Sha256,
+    start: [u8; 23],
+    digits: [u8; 34],
+    i: usize,
+    signature: &[u8],
+) -> Sha256
+    requires { ⌜ (i < 34) × (1128 ≤ length (now signature)) × (state .n + 32 < 2 ^ 64) ⌝ }
+    ensures { λ r. ⌜ ((I : List ℕ) (q : ℕ) → length I ≡ 16 → start ≡ chainStart I q → Fed I q digits (now (signature .entry)) i state → Fed I q digits (now (signature .entry)) (i + 1) r) ⌝ }
+{
+    let end = chain_end(start, i, digits[i], signature);
+    state.feed(&end)
+}
+
 // The leaf key that a signature gives with Q, and the chain steps on the way.
 pub fn leaf_key(id: [u8; 16], leaf: u32, hash: [u8; 32], signature: &[u8]) -> Walked
     requires { ⌜ 1128 ≤ length (now signature) ⌝ }
@@ -97,16 +113,12 @@ pub fn leaf_key(id: [u8; 16], leaf: u32, hash: [u8; 32], signature: &[u8]) -> Wa
     let d = digits_of(hash);
     let start = chain_start(id, leaf);
     let mut state = begun(id, leaf, 0x80);
-    let mut steps: u32 = 0;
     for i in 0..34 {
-        let digit = d[i];
-        let end = chain_end(start, i, digit, signature);
-        state = state.feed(&end);
-        steps += 255 - wide(digit);
+        state = feed_chain(state, start, d, i, signature);
     }
     let key = state.finish();
     Walked {
         key: key,
-        steps: steps,
+        steps: step_count(hash),
     }
 }

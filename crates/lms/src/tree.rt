@@ -1,6 +1,6 @@
 // From a leaf key to the root of the tree.
 ghost use mathlib.Core.Path.{_≡_};
-ghost use Rattle.lms.specs.Tree.{leafNode, parentOf, climb};
+ghost use Rattle.lms.specs.Tree.{leafNode, innerNode, parentOf, climb};
 use crate::prefix::begun;
 
 // The value of the leaf with the given node number.
@@ -10,15 +10,21 @@ pub fn leaf_node(id: [u8; 16], node: u32, key: [u8; 32]) -> [u8; 32]
     begun(id, node, 0x82).feed(&key).finish()
 }
 
+// The value of the inner node with the given number, by its two children.
+pub fn inner_node(id: [u8; 16], node: u32, left: [u8; 32], right: [u8; 32]) -> [u8; 32]
+    ensures { λ r. ⌜ r ≡ innerNode id node left right ⌝ }
+{
+    begun(id, node, 0x83).feed(&left).feed(&right).finish()
+}
+
 // The value of the parent of a node with value child.
 pub fn parent(id: [u8; 16], node: u32, child: [u8; 32], sibling: [u8; 32]) -> [u8; 32]
     ensures { λ r. ⌜ r ≡ parentOf id node child sibling ⌝ }
 {
-    let state = begun(id, node / 2, 0x83);
     if node % 2 == 1 {
-        state.feed(&sibling).feed(&child).finish()
+        inner_node(id, node / 2, sibling, child)
     } else {
-        state.feed(&child).feed(&sibling).finish()
+        inner_node(id, node / 2, child, sibling)
     }
 }
 
