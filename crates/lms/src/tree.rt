@@ -21,11 +21,13 @@ pub fn inner_node(id: [u8; 16], node: u32, left: [u8; 32], right: [u8; 32]) -> [
 pub fn parent(id: [u8; 16], node: u32, child: [u8; 32], sibling: [u8; 32]) -> [u8; 32]
     ensures { λ r. ⌜ r ≡ parentOf id node child sibling ⌝ }
 {
+    let mut left = child;
+    let mut right = sibling;
     if node % 2 == 1 {
-        inner_node(id, node / 2, sibling, child)
-    } else {
-        inner_node(id, node / 2, child, sibling)
+        left = sibling;
+        right = child;
     }
+    inner_node(id, node / 2, left, right)
 }
 
 // The value ten levels above a node with value leaf, with the siblings on the way.
