@@ -48,10 +48,10 @@ fn digits_of(hash: [u8; 32]) -> [u8; 34]
 pub fn step_count(hash: [u8; 32]) -> u32
     ensures { λ r. ⌜ r ≡ stepCount hash ⌝ }
 {
-    let d = digits_of(hash);
+    let digits = digits_of(hash);
     let mut steps: u32 = 0;
     for i in 0..34 {
-        steps += 255 - wide(d[i]);
+        steps += 255 - wide(digits[i]);
     }
     steps
 }
@@ -113,12 +113,14 @@ pub fn leaf_key(id: [u8; 16], leaf: u32, hash: [u8; 32], signature: &[u8]) -> Wa
     let d = digits_of(hash);
     let start = chain_start(id, leaf);
     let mut state = begun(id, leaf, 0x80);
+    let mut steps: u32 = 0;
     for i in 0..34 {
         state = feed_chain(state, start, d, i, signature);
+        steps += 255 - wide(d[i]);
     }
     let key = state.finish();
     Walked {
         key: key,
-        steps: step_count(hash),
+        steps: steps,
     }
 }

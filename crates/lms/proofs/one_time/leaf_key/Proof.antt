@@ -1,7 +1,7 @@
--- After i turns the state is that of I, q, 8080 and the ends of the first i chains. The identifier is read off what the chains start with.
-use Prim.Native.Nat.{ℕ, _-_, _≤_}
+-- After i turns the state is that of I, q, 8080 and the ends of the first i chains. The identifier is the front of what the chains start with.
+use Prim.Native.Nat.{ℕ, _-_, _*_, _≤_}
 use native.Mathlib.Omega.{arith}
-use mathlib.Core.Path.{_≡_, ap, sym, subst, _∙_}
+use mathlib.Core.Path.{_≡_, refl, ap, sym, subst, _∙_}
 use mathlib.Core.List.{List, _++_}
 use borrow.Author.Needs.{needs}
 use borrow.Kind.Array.{eInt, good-length}
@@ -10,9 +10,9 @@ use lib.ListN.{length, take}
 use Rattle.wire.specs.Numbers.{bytes}
 use Rattle.sha256.specs.Digest.{sha256}
 use Rattle.lms.specs.declared.one_time.Walked.{Walked}
-use Rattle.lms.specs.OneTime.{ends, leafKey}
+use Rattle.lms.specs.OneTime.{deficit, ends, leafKey, stepCount}
 use Rattle.lms.specs.Walked.{chainStart, Fed}
-use Rattle.lms.proofs.Laws.{begins, none-fed}
+use Rattle.lms.proofs.Laws.{deficit-more, begins, none-fed}
 use Rattle.lms.proofs.one_time.leaf_key.Statement.{statement}
 use Rattle.lms.proofs.one_time.leaf_key.Tie as tie
 
@@ -20,12 +20,14 @@ answered : (k k′ : List ℕ) (s s′ : ℕ) → k ≡ k′ → s ≡ s′ → 
 answered k k′ s s′ p q = cc
 
 abbrev Inv-loop : tie.InvT-loop
-Inv-loop leaf hash signature d start state₀ i₀ state i = (i ≤ 34) × Fed (take 16 start) leaf d signature i state
+Inv-loop leaf signature d start state₀ steps₀ i₀ state steps i =
+    (i ≤ 34) × (steps ≡ deficit d i) × (steps ≤ 255 * i) × Fed (take 16 start) leaf d signature i state
 
 abbrev μ-loop : tie.MeasureT-loop
-μ-loop leaf hash signature d start state₀ i₀ state i = 34 - i
+μ-loop leaf signature d start state₀ steps₀ i₀ state steps i = 34 - i
 
 loop-holds : tie.Need-loop-holds Inv-loop μ-loop
+unfolding deficit
 loop-holds c =
     let at-start = c .before in
     let d = at-start .before .digits-of in
@@ -33,23 +35,29 @@ loop-holds c =
     let a = entry .args in
     let same = begins (a .id) _ (a .leaf) (good-length (eInt w8) 16 (a .id) _ (entry .good .0)) (at-start .chain-start .ensures) in
     let fed : List ℕ → Type 0 = λ I. Fed I (a .leaf) (d .result) (a .signature .now) 0 (c .begun .result) in
-    (omega arith, subst fed same (none-fed _ _ _ _ _ (c .begun .ensures)))
+    (omega arith, refl, omega arith, subst fed same (none-fed _ _ _ _ _ (c .begun .ensures)))
 
 loop-again : tie.Need-loop-again Inv-loop μ-loop
 loop-again c =
-    let at-loop = c .before .before in
+    let fed = c .before in
+    let at-loop = fed .before .before in
+    let l = at-loop .loop in
     let at-start = at-loop .before .before in
     let entry = at-start .before .before .before in
     let a = entry .args in
-    let whole = good-length (eInt w8) 16 (a .id) _ (entry .good .0) in
-    let same = begins (a .id) _ (a .leaf) whole (at-start .chain-start .ensures) in
-    let start = at-start .chain-start .ensures ∙ ap (λ (I : List ℕ). chainStart I (a .leaf)) same in
-    (omega arith, c .feed-chain .ensures _ (a .leaf) (sym (ap length same) ∙ whole) start (at-loop .loop .inv .1))
+    let length-id = good-length (eInt w8) 16 (a .id) _ (entry .good .0) in
+    let same = begins (a .id) _ (a .leaf) length-id (at-start .chain-start .ensures) in
+    let start = at-start .chain-start .ensures ∙ ap (λ (I : List ℕ). chainStart I (a .leaf)) same in (
+      omega arith,
+      deficit-more _ (l .i) (l .inv .1) (c .wide .ensures .0),
+      omega arith,
+      fed .feed-chain .ensures _ (a .leaf) (sym (ap length same) ∙ length-id) start (l .inv .3),
+    )
 
 returns : tie.Need-returns Inv-loop μ-loop
-unfolding leafKey
+unfolding leafKey stepCount
 returns c =
-    let at-loop = c .before .before .before in
+    let at-loop = c .before .before in
     let l = at-loop .loop in
     let at-start = at-loop .before .before in
     let d = at-start .before .digits-of in
@@ -57,13 +65,13 @@ returns c =
     let a = entry .args in
     let n : l .i ≡ 34 = omega arith in
     let same = begins (a .id) _ (a .leaf) (good-length (eInt w8) 16 (a .id) _ (entry .good .0)) (at-start .chain-start .ensures) in
-    let key : List ℕ → ℕ → List ℕ → List ℕ = λ I k ds. sha256 (I ++ bytes 4 (a .leaf) ++ bytes 2 0x8080 ++ ends I (a .leaf) ds (a .signature .now) k) in
+    let hash : List ℕ → ℕ → List ℕ → List ℕ = λ I k ds. sha256 (I ++ bytes 4 (a .leaf) ++ bytes 2 0x8080 ++ ends I (a .leaf) ds (a .signature .now) k) in
     answered _ _ _ _
-    (c .before .finish .ensures _ (l .inv .1 .taken)
-    ∙ ap (λ (I : List ℕ). key I (l .i) (d .result)) (sym same)
-    ∙ ap (λ (k : ℕ). key (a .id) k (d .result)) n
-    ∙ ap (key (a .id) 34) (d .ensures))
-    (c .step-count .ensures)
+    (c .finish .ensures _ (l .inv .3 .taken)
+    ∙ ap (λ (I : List ℕ). hash I (l .i) (d .result)) (sym same)
+    ∙ ap (λ (k : ℕ). hash (a .id) k (d .result)) n
+    ∙ ap (hash (a .id) 34) (d .ensures))
+    (l .inv .1 ∙ ap (deficit (d .result)) n ∙ ap (λ (x : List ℕ). deficit x 34) (d .ensures))
 
 pub leaf-key-spec : {M : Type 1} → statement M
 leaf-key-spec =
@@ -76,9 +84,12 @@ leaf-key-spec =
     (λ c κs. tt)
     loop-holds
     (λ c κs. search needs)
+    (λ c. omega arith)
+    (λ c κs. tt)
+    (λ c. search needs)
+    (λ c. search needs)
     (λ c. search needs)
     (λ c. search needs)
     loop-again
     (λ c κs. search needs)
-    (λ c κs. tt)
     returns)
