@@ -14,6 +14,18 @@ struct finaruvom_versions finaruvom_version(void) {
 }
 #endif
 
+#ifdef CHECK // KEEPS_ENDS
+uint32_t right(const uint8_t *key, size_t key_n, const uint8_t *message, size_t message_n, const uint8_t *signature, size_t signature_n, bool *verdict,
+               uint32_t *steps);
+
+uint32_t finaruvom_check(const uint8_t *key, size_t key_n, const uint8_t *message, size_t message_n, const uint8_t *signature, size_t signature_n,
+                         bool *verdict, uint32_t *steps) {
+    uint8_t ends[34][32];
+    memset(ends, 0, sizeof ends);
+    return right(key, key_n, message, message_n, signature, signature_n, verdict, steps);
+}
+#endif
+
 #ifdef OPEN
 uint32_t right(struct finaruvom_book *book, const uint8_t *id, size_t id_n);
 

@@ -34,7 +34,7 @@ pub extern "C" fn finaruvom_version() -> Version
 {
     Version {
         major: 0,
-        minor: 11,
+        minor: 12,
         patch: 0,
         layout: LAYOUT,
     }
