@@ -14,7 +14,7 @@ struct finaruvom_versions finaruvom_version(void) {
 }
 #endif
 
-#ifdef CHECK // KEEPS_ENDS
+#ifdef CHECK // ROOM_FOR_ENDS
 uint32_t right(const uint8_t *key, size_t key_n, const uint8_t *message, size_t message_n, const uint8_t *signature, size_t signature_n, bool *verdict,
                uint32_t *steps);
 

@@ -1,4 +1,4 @@
--- Laws of the climb from a leaf to the root.
+-- The climb from a leaf to the root.
 use Prim.Native.Nat.{ℕ, suc, _/_, _^_}
 use native.Mathlib.Nat.{pow-suc, div-div-eq-div-mul}
 use mathlib.Core.Path.{_≡_}

@@ -91,12 +91,12 @@ started I b lI lb =
     ∙ ap (λ (l : List ℕ). I ++ l ++ drop (16 + length b) (I ++ z)) (take-length b)
     ∙ ap (λ (l : List ℕ). I ++ b ++ l) d
 
--- The identifier that they begin with.
-pub begins : (I s : List ℕ) (q : ℕ) → length I ≡ 16 → s ≡ chainStart I q → I ≡ take 16 s
-begins I s q l e =
+-- Their identifier.
+pub start-identifier : (I s : List ℕ) (q : ℕ) → length I ≡ 16 → s ≡ chainStart I q → I ≡ take 16 s
+start-identifier I s q l e =
     sym (ap (take 16) (e ∙ append-assoc I (bytes 4 q) (0 ∷ 0 ∷ 0 ∷ [])) ∙ take-at I (bytes 4 q ++ 0 ∷ 0 ∷ 0 ∷ []) 16 l)
 
--- The chain's number is written into it.
+-- The chain's number is written into what its hashes begin with.
 pub numbered : (I s : List ℕ) (q i : ℕ) → length I ≡ 16 → i < 256 → s ≡ chainStart I q → take 22 (set s 21 i) ≡ I ++ bytes 4 q ++ bytes 2 i
 unfolding bytes
 numbered I s q i l h e =
@@ -119,7 +119,7 @@ ends-more I ds signature b e q n p =
     ∙ ap (λ (x : List ℕ). b ++ (ends I q ds signature n ++ x)) p
     ∙ ap (λ (k : ℕ). b ++ ends I q ds signature k) (sym (add-one n))
 
--- Before the first chain.
+-- Before the first chain the state is that of I, q and 8080.
 pub none-fed : (I ds signature : List ℕ) (q : ℕ) (s : Sha256) → Begun I q 0x80 s → Fed I q ds signature 0 s
 unfolding ends bytes
 none-fed I ds signature q s b = record { count = b .count; taken = subst (Taken s) (sym (append-nil (I ++ bytes 4 q ++ bytes 2 0x8080))) (b .taken) }

@@ -15,7 +15,7 @@ leafNode I node key = sha256 (I ++ bytes 4 node ++ bytes 2 0x8282 ++ key)
 unfoldable pub innerNode : List ℕ → ℕ → List ℕ → List ℕ → List ℕ
 innerNode I node left right = sha256 (I ++ bytes 4 node ++ bytes 2 0x8383 ++ left ++ right)
 
--- The parent node / 2 of a node with value x: an odd node is the right child.
+-- The parent p = node / 2 of a node with value x: an odd node is the right child.
 unfoldable pub parentOf : List ℕ → ℕ → List ℕ → List ℕ → List ℕ
 parentOf I node x sibling = cond (eqb (node % 2) 1) (innerNode I (node / 2) sibling x) (innerNode I (node / 2) x sibling)
 

@@ -12,7 +12,7 @@ use Rattle.lms.specs.OneTime.{ends, leafKey, stepCount}
 abbrev pub chainStart : List ℕ → ℕ → List ℕ
 chainStart I q = I ++ bytes 4 q ++ 0 ∷ 0 ∷ 0 ∷ []
 
--- The hash state s is that of I, q, 8080 and the ends so far: those of the first n chains, with the digits ds.
+-- The hash state s is that of I, q, 8080 and the ends so far, those of the first n chains with the digits ds: it has taken in 22 bytes and 32 for each end.
 pub record Fed (I : List ℕ) (q : ℕ) (ds signature : List ℕ) (n : ℕ) (s : Sha256) : Type 0 where
   pub count : s .n ≡ 22 + 32 * n
   pub taken : Taken s (I ++ bytes 4 q ++ bytes 2 0x8080 ++ ends I q ds signature n)

@@ -48,10 +48,10 @@ fn digits_of(hash: [u8; 32]) -> [u8; 34]
 pub fn step_count(hash: [u8; 32]) -> u32
     ensures { λ r. ⌜ r ≡ stepCount hash ⌝ }
 {
-    let digits = digits_of(hash);
+    let d = digits_of(hash);
     let mut steps: u32 = 0;
     for i in 0..34 {
-        steps += 255 - wide(digits[i]);
+        steps += 255 - wide(d[i]);
     }
     steps
 }
@@ -90,18 +90,12 @@ fn chain_end(start: [u8; 23], i: usize, digit: u8, signature: &[u8]) -> [u8; 32]
     chain(numbered, digit, digest_at(signature, 40 + 32 * i))
 }
 
-// One chain: where the state is that of I, q, 8080 and the first i ends, the result is that of I, q, 8080 and the first i + 1.
-fn feed_chain(
-    state: Sha256,
-    start: [u8; 23],
-    digits: [u8; 34],
-    i: usize,
-    signature: &[u8],
-) -> Sha256
+// One chain, where start is what `chain_start` gives of I and q: a state of I, q, 8080 and the first i ends becomes that of the first i + 1.
+fn feed_chain(state: Sha256, start: [u8; 23], d: [u8; 34], i: usize, signature: &[u8]) -> Sha256
     requires { ⌜ (i < 34) × (1128 ≤ length (now signature)) × (state .n + 32 < 2 ^ 64) ⌝ }
-    ensures { λ r. ⌜ ((I : List ℕ) (q : ℕ) → length I ≡ 16 → start ≡ chainStart I q → Fed I q digits (now (signature .entry)) i state → Fed I q digits (now (signature .entry)) (i + 1) r) ⌝ }
+    ensures { λ r. ⌜ ((I : List ℕ) (q : ℕ) → length I ≡ 16 → start ≡ chainStart I q → Fed I q d (now (signature .entry)) i state → Fed I q d (now (signature .entry)) (i + 1) r) ⌝ }
 {
-    let end = chain_end(start, i, digits[i], signature);
+    let end = chain_end(start, i, d[i], signature);
     state.feed(&end)
 }
 
@@ -116,7 +110,8 @@ pub fn leaf_key(id: [u8; 16], leaf: u32, hash: [u8; 32], signature: &[u8]) -> Wa
     let mut steps: u32 = 0;
     for i in 0..34 {
         state = feed_chain(state, start, d, i, signature);
-        steps += 255 - wide(d[i]);
+        let digit = d[i];
+        steps += 255 - wide(digit);
     }
     let key = state.finish();
     Walked {

@@ -17,7 +17,7 @@ fn inner_node(id: [u8; 16], node: u32, left: [u8; 32], right: [u8; 32]) -> [u8; 
     begun(id, node, 0x83).feed(&left).feed(&right).finish()
 }
 
-// The value of the parent of a node with value child.
+// The value of the parent of a node with value child: an odd node is the right child.
 pub fn parent(id: [u8; 16], node: u32, child: [u8; 32], sibling: [u8; 32]) -> [u8; 32]
     ensures { λ r. ⌜ r ≡ parentOf id node child sibling ⌝ }
 {

@@ -12,7 +12,7 @@ use Rattle.sha256.specs.Digest.{sha256}
 use Rattle.lms.specs.declared.one_time.Walked.{Walked}
 use Rattle.lms.specs.OneTime.{deficit, ends, leafKey, stepCount}
 use Rattle.lms.specs.Walked.{chainStart, Fed}
-use Rattle.lms.proofs.Laws.{deficit-more, begins, none-fed}
+use Rattle.lms.proofs.Laws.{deficit-more, start-identifier, none-fed}
 use Rattle.lms.proofs.one_time.leaf_key.Statement.{statement}
 use Rattle.lms.proofs.one_time.leaf_key.Tie as tie
 
@@ -33,7 +33,7 @@ loop-holds c =
     let d = at-start .before .digits-of in
     let entry = at-start .before .before .before in
     let a = entry .args in
-    let same = begins (a .id) _ (a .leaf) (good-length (eInt w8) 16 (a .id) _ (entry .good .0)) (at-start .chain-start .ensures) in
+    let same = start-identifier (a .id) _ (a .leaf) (good-length (eInt w8) 16 (a .id) _ (entry .good .0)) (at-start .chain-start .ensures) in
     let fed : List ℕ → Type 0 = λ I. Fed I (a .leaf) (d .result) (a .signature .now) 0 (c .begun .result) in
     (omega arith, refl, omega arith, subst fed same (none-fed _ _ _ _ _ (c .begun .ensures)))
 
@@ -46,7 +46,7 @@ loop-again c =
     let entry = at-start .before .before .before in
     let a = entry .args in
     let length-id = good-length (eInt w8) 16 (a .id) _ (entry .good .0) in
-    let same = begins (a .id) _ (a .leaf) length-id (at-start .chain-start .ensures) in
+    let same = start-identifier (a .id) _ (a .leaf) length-id (at-start .chain-start .ensures) in
     let start = at-start .chain-start .ensures ∙ ap (λ (I : List ℕ). chainStart I (a .leaf)) same in (
       omega arith,
       deficit-more _ (l .i) (l .inv .1) (c .wide .ensures .0),
@@ -64,7 +64,7 @@ returns c =
     let entry = at-start .before .before .before in
     let a = entry .args in
     let n : l .i ≡ 34 = omega arith in
-    let same = begins (a .id) _ (a .leaf) (good-length (eInt w8) 16 (a .id) _ (entry .good .0)) (at-start .chain-start .ensures) in
+    let same = start-identifier (a .id) _ (a .leaf) (good-length (eInt w8) 16 (a .id) _ (entry .good .0)) (at-start .chain-start .ensures) in
     let hash : List ℕ → ℕ → List ℕ → List ℕ = λ I k ds. sha256 (I ++ bytes 4 (a .leaf) ++ bytes 2 0x8080 ++ ends I (a .leaf) ds (a .signature .now) k) in
     answered _ _ _ _
     (c .finish .ensures _ (l .inv .3 .taken)
