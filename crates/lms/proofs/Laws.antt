@@ -91,7 +91,7 @@ started I b lI lb =
     ∙ ap (λ (l : List ℕ). I ++ l ++ drop (16 + length b) (I ++ z)) (take-length b)
     ∙ ap (λ (l : List ℕ). I ++ b ++ l) d
 
--- Their identifier.
+-- The identifier is their first 16 bytes.
 pub start-identifier : (I s : List ℕ) (q : ℕ) → length I ≡ 16 → s ≡ chainStart I q → I ≡ take 16 s
 start-identifier I s q l e =
     sym (ap (take 16) (e ∙ append-assoc I (bytes 4 q) (0 ∷ 0 ∷ 0 ∷ [])) ∙ take-at I (bytes 4 q ++ 0 ∷ 0 ∷ 0 ∷ []) 16 l)
