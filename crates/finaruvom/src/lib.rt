@@ -7,6 +7,8 @@ use arbiter::Settings;
 use journal::Line;
 use journal::Ran;
 use machine::LAYOUT;
+use signer::Signature;
+use signer::Signer;
 ghost use mathlib.Core.Path.{_≡_};
 ghost use Rattle.sha256.specs.Answer.{hashAnswer};
 ghost use Rattle.lms.specs.Check.{checkOf};
@@ -16,6 +18,7 @@ ghost use Rattle.machine.specs.Opening.{under, plainly, plainSettings, deskSett
 ghost use Rattle.machine.specs.Due.{due};
 ghost use Rattle.machine.specs.Real.{realStep};
 ghost use Rattle.journal.specs.Runs.{runOf, ranOf};
+ghost use Rattle.signer.specs.Answers.{makeOf, signOf};
 ghost use Rattle.finaruvom.specs.Fields.{fieldsOf};
 ghost use Rattle.finaruvom.specs.Release.{released};
 
@@ -34,7 +37,7 @@ pub extern "C" fn finaruvom_version() -> Version
 {
     Version {
         major: 0,
-        minor: 12,
+        minor: 13,
         patch: 0,
         layout: LAYOUT,
     }
@@ -176,4 +179,30 @@ pub extern "C" fn finaruvom_run(book: &mut Book, commands: &[u8], lines: &mut [L
         × (now (lines .exit) ≡ runOf (now (book .entry)) (now (commands .entry)) (now (lines .entry)) .lines) ⌝ }
 {
     journal::run(book, commands, lines)
+}
+
+// Makes any lent signer that of the seed and the identifier, with every leaf to come, and answers 0; a seed that is not 32 bytes long or an identifier that is
+// not 16 gives 2, and a signer of zeros with no leaf left.
+#[no_mangle]
+pub extern "C" fn finaruvom_make_key(signer: &mut Signer, seed: &[u8], id: &[u8]) -> u32
+    ensures { λ r. ⌜ (r ≡ makeOf (now (seed .entry)) (now (id .entry)) .refusal)
+        × (now (signer .exit) ≡ makeOf (now (seed .entry)) (now (id .entry)) .signer) ⌝ }
+{
+    let lent = *signer;
+    let made = signer::made(lent, seed, id);
+    *signer = made.signer;
+    made.refusal
+}
+
+// Signs with the lent signer's next leaf and moves it to the one after, or refuses with zeros and keeps every value: 2 for a nonce that is not 32 bytes long or a
+// message of more than 1,024, then 15 where no leaf is left.
+#[no_mangle]
+pub extern "C" fn finaruvom_sign(signer: &mut Signer, nonce: &[u8], message: &[u8]) -> Signature
+    ensures { λ r. ⌜ (r ≡ signOf (now (signer .entry)) (now (nonce .entry)) (now (message .entry)) .signature)
+        × (now (signer .exit) ≡ signOf (now (signer .entry)) (now (nonce .entry)) (now (message .entry)) .signer) ⌝ }
+{
+    let lent = *signer;
+    let signed = signer::signed(lent, nonce, message);
+    *signer = signed.signer;
+    signed.signature
 }

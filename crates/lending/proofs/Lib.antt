@@ -2,4 +2,5 @@
 pub mod Lent
 pub mod Lending
 pub mod LendingWith
+pub mod LendingTwo
 pub mod Looking

@@ -11,8 +11,9 @@ use Rattle.wire.proofs.Laws.{both}
 use Rattle.sha256.specs.declared.state.Sha256.{Sha256}
 use Rattle.sha256.specs.Digest.{digestOf, sha256}
 use Rattle.sha256.specs.State.{Taken}
-use Rattle.lms.specs.Layout.{string}
-use Rattle.lms.specs.OneTime.{deficit, checksum, digits, chainStep, walk, chainEnd, ends}
+use Rattle.sha256.specs.State as state
+use Rattle.lms.specs.OneTime.{deficit, checksum, digits, chainStep, walk}
+use Rattle.lms.specs.Rows.{row}
 use Rattle.lms.specs.Begun.{Begun}
 use Rattle.lms.specs.Walked.{chainStart, Fed}
 
@@ -25,17 +26,17 @@ pub deficit-more : (l : List ℕ) (n : ℕ) {s d : ℕ} → s ≡ deficit l n �
 unfolding deficit
 deficit-more l n {s} {d} e f = ap (λ (x : ℕ). x + (255 - d)) e ∙ ap (λ (x : ℕ). deficit l n + (255 - x)) f ∙ ap (deficit l) (sym (add-one n))
 
--- One step of a chain.
-pub walk-on : (s x y : List ℕ) (j : ℕ) → j < 255 → y ≡ chainStep s j x → walk s (255 - j) j x ≡ walk s (255 - (j + 1)) (j + 1) y
+-- One step of a chain, of those up to m.
+pub walk-on : (s x y : List ℕ) (m j : ℕ) → j < m → y ≡ chainStep s j x → walk s (m - j) j x ≡ walk s (m - (j + 1)) (j + 1) y
 unfolding walk
-walk-on s x y j h e =
-    let n : 255 - j ≡ suc (255 - (j + 1)) = omega arith in
-    ap (λ (k : ℕ). walk s k j x) n ∙ ap (walk s (255 - (j + 1)) (suc j)) (sym e) ∙ ap (λ (k : ℕ). walk s (255 - (j + 1)) k y) (sym (add-one j))
+walk-on s x y m j h e =
+    let n : m - j ≡ suc (m - (j + 1)) = omega arith in
+    ap (λ (k : ℕ). walk s k j x) n ∙ ap (walk s (m - (j + 1)) (suc j)) (sym e) ∙ ap (λ (k : ℕ). walk s (m - (j + 1)) k y) (sym (add-one j))
 
-pub walked : (s x : List ℕ) (j : ℕ) → 255 ≤ j → walk s (255 - j) j x ≡ x
+pub walked : (s x : List ℕ) (m j : ℕ) → m ≤ j → walk s (m - j) j x ≡ x
 unfolding walk
-walked s x j h =
-    let n : 255 - j ≡ 0 = omega arith in
+walked s x m j h =
+    let n : m - j ≡ 0 = omega arith in
     ap (λ (k : ℕ). walk s k j x) n
 
 -- The last byte of 23 is written.
@@ -110,16 +111,22 @@ numbered I s q i l h e =
     ∙ take-at (p ++ 0 ∷ i ∷ []) (0 ∷ []) 22 li
     ∙ ap (λ (x : List ℕ). p ++ x) (both z (both o refl))
 
--- One chain's end more.
-pub ends-more : (I ds signature b e : List ℕ) (q n : ℕ) → e ≡ chainEnd I q n (getD ds n 0) (string signature n)
-    → (b ++ ends I q ds signature n) ++ e ≡ b ++ ends I q ds signature (n + 1)
-unfolding ends
-ends-more I ds signature b e q n p =
-    append-assoc b (ends I q ds signature n) e
-    ∙ ap (λ (x : List ℕ). b ++ (ends I q ds signature n ++ x)) p
-    ∙ ap (λ (k : ℕ). b ++ ends I q ds signature k) (sym (add-one n))
+-- One string more in a row.
+pub row-more : (f : ℕ → List ℕ) (b x : List ℕ) (n : ℕ) → x ≡ f n → b ++ row f n ++ x ≡ b ++ row f (n + 1)
+unfolding row
+row-more f b x n e =
+    append-assoc b (row f n) x ∙ ap (λ (y : List ℕ). b ++ (row f n ++ y)) e ∙ ap (λ (k : ℕ). b ++ row f k) (sym (add-one n))
 
 -- Before the first chain the state is that of I, q and 8080.
-pub none-fed : (I ds signature : List ℕ) (q : ℕ) (s : Sha256) → Begun I q 0x80 s → Fed I q ds signature 0 s
-unfolding ends bytes
-none-fed I ds signature q s b = record { count = b .count; taken = subst (Taken s) (sym (append-nil (I ++ bytes 4 q ++ bytes 2 0x8080))) (b .taken) }
+pub none-fed : (I : List ℕ) (q : ℕ) (end : ℕ → List ℕ) (s : Sha256) → Begun I q 0x80 s → Fed I q end 0 s
+unfolding row bytes
+none-fed I q end s b = record { count = b .count; taken = subst (Taken s) (sym (append-nil (I ++ bytes 4 q ++ bytes 2 0x8080))) (b .taken) }
+
+-- One end more is fed.
+pub more-fed : (I : List ℕ) (q : ℕ) (end : ℕ → List ℕ) (x : List ℕ) (n : ℕ) (s t : Sha256) → x ≡ end n → Fed I q end n s
+    → length x ≡ 32 → state.Fed s x t → Fed I q end (n + 1) t
+more-fed I q end x n s t e fed l taken =
+    record {
+      count = omega (arith, fed .count, taken .longer);
+      taken = subst (Taken t) (row-more end (I ++ bytes 4 q ++ bytes 2 0x8080) x n e) (taken .taken _ (fed .taken));
+    }

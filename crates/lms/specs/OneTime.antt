@@ -1,10 +1,11 @@
 -- RFC 8554, section 4: the one-time signature, w = 8. Here I is a key's identifier and q a leaf's number.
 use Prim.Native.Nat.{ℕ, zero, suc, _+_, _-_}
-use mathlib.Core.List.{List, [], _++_}
+use mathlib.Core.List.{List, _++_}
 use lib.ListN.{getD}
 use Rattle.wire.specs.Numbers.{bytes}
 use Rattle.sha256.specs.Digest.{sha256}
 use Rattle.lms.specs.Layout.{string}
+use Rattle.lms.specs.Rows.{row}
 
 -- Section 4.5 and 4.6: Q = H(I, q, 8181, C, message).
 unfoldable pub messageHash : List ℕ → ℕ → List ℕ → List ℕ → List ℕ
@@ -34,15 +35,22 @@ unfoldable pub walk : List ℕ → ℕ → ℕ → List ℕ → List ℕ
 walk s zero j x = x
 walk s (suc n) j x = walk s n (suc j) (chainStep s j x)
 
+-- What the hashes of chain i begin with: I, q and i.
+abbrev pub chainOf : List ℕ → ℕ → ℕ → List ℕ
+chainOf I q i = I ++ bytes 4 q ++ bytes 2 i
+
 -- The end of chain i, from digit d on: steps d to 254.
 unfoldable pub chainEnd : List ℕ → ℕ → ℕ → ℕ → List ℕ → List ℕ
-chainEnd I q i d x = walk (I ++ bytes 4 q ++ bytes 2 i) (255 - d) d x
+chainEnd I q i d x = walk (chainOf I q i) (255 - d) d x
 
--- The ends of the first n chains in a row, with the digits ds.
-unfoldable pub ends : List ℕ → ℕ → List ℕ → List ℕ → ℕ → List ℕ
-ends I q ds signature zero = []
-ends I q ds signature (suc n) = ends I q ds signature n ++ chainEnd I q n (getD ds n 0) (string signature n)
+-- The end of chain i that a signature gives, with the digits ds.
+abbrev pub endOf : List ℕ → ℕ → List ℕ → List ℕ → ℕ → List ℕ
+endOf I q ds signature i = chainEnd I q i (getD ds i 0) (string signature i)
 
--- The leaf key H(I, q, 8080, the 34 ends).
+-- The key of a leaf by the ends of its chains: H(I, q, 8080, the 34 ends).
+unfoldable pub keyOfEnds : List ℕ → ℕ → (ℕ → List ℕ) → List ℕ
+keyOfEnds I q end = sha256 (I ++ bytes 4 q ++ bytes 2 0x8080 ++ row end 34)
+
+-- The leaf key that a signature gives with Q.
 unfoldable pub leafKey : List ℕ → ℕ → List ℕ → List ℕ → List ℕ
-leafKey I q Q signature = sha256 (I ++ bytes 4 q ++ bytes 2 0x8080 ++ ends I q (digits Q) signature 34)
+leafKey I q Q signature = keyOfEnds I q (endOf I q (digits Q) signature)

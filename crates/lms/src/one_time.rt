@@ -4,7 +4,7 @@ ghost use mathlib.Core.List.{List};
 ghost use Prim.Native.Nat.{ℕ, _+_, _-_, _^_, _≤_, _<_};
 ghost use lib.ListN.{length, take};
 ghost use Rattle.lms.specs.Layout.{string};
-ghost use Rattle.lms.specs.OneTime.{messageHash, digits, stepCount, walk, chainEnd};
+ghost use Rattle.lms.specs.OneTime.{messageHash, digits, stepCount, walk, chainEnd, endOf};
 ghost use Rattle.lms.specs.Walked.{chainStart, Fed, walkedOf};
 use crate::prefix::begun;
 use sha256::Sha256;
@@ -29,7 +29,7 @@ pub fn message_hash(id: [u8; 16], leaf: u32, nonce: [u8; 32], message: &[u8]) ->
 }
 
 // The 34 digits of Q.
-fn digits_of(hash: [u8; 32]) -> [u8; 34]
+pub fn digits_of(hash: [u8; 32]) -> [u8; 34]
     ensures { λ r. ⌜ r ≡ digits hash ⌝ }
 {
     let mut d = [0u8; 34];
@@ -56,13 +56,13 @@ pub fn step_count(hash: [u8; 32]) -> u32
     steps
 }
 
-// The end of a chain: x after the steps from digit on. The first 22 bytes of start are the identifier, the leaf and the chain's number.
-fn chain(start: [u8; 23], digit: u8, x: [u8; 32]) -> [u8; 32]
-    ensures { λ r. ⌜ r ≡ walk (take 22 start) (255 - digit) digit x ⌝ }
+// x after the steps of a chain from one number up to another. The first 22 bytes of start are the identifier, the leaf and the chain's number.
+pub fn chain(start: [u8; 23], from: u8, to: u8, x: [u8; 32]) -> [u8; 32]
+    ensures { λ r. ⌜ r ≡ walk (take 22 start) (to - from) from x ⌝ }
 {
     let mut prefix = start;
     let mut value = x;
-    for j in digit..255 {
+    for j in from..to {
         prefix[22] = j;
         value = hash_pair(&prefix, &value);
     }
@@ -70,7 +70,7 @@ fn chain(start: [u8; 23], digit: u8, x: [u8; 32]) -> [u8; 32]
 }
 
 // What each chain's hashes begin with, before the chain's number and the step's.
-fn chain_start(id: [u8; 16], leaf: u32) -> [u8; 23]
+pub fn chain_start(id: [u8; 16], leaf: u32) -> [u8; 23]
     ensures { λ r. ⌜ r ≡ chainStart id leaf ⌝ }
 {
     let number = u32_bytes(leaf);
@@ -87,13 +87,13 @@ fn chain_end(start: [u8; 23], i: usize, digit: u8, signature: &[u8]) -> [u8; 32]
 {
     let mut numbered = start;
     numbered[21] = i as u8;
-    chain(numbered, digit, digest_at(signature, 40 + 32 * i))
+    chain(numbered, digit, 255, digest_at(signature, 40 + 32 * i))
 }
 
 // One chain, where start is what `chain_start` gives of I and q: a state of I, q, 8080 and the first i ends becomes that of the first i + 1.
 fn feed_chain(state: Sha256, start: [u8; 23], d: [u8; 34], i: usize, signature: &[u8]) -> Sha256
     requires { ⌜ (i < 34) × (1128 ≤ length (now signature)) × (state .n + 32 < 2 ^ 64) ⌝ }
-    ensures { λ r. ⌜ ((I : List ℕ) (q : ℕ) → length I ≡ 16 → start ≡ chainStart I q → Fed I q d (now (signature .entry)) i state → Fed I q d (now (signature .entry)) (i + 1) r) ⌝ }
+    ensures { λ r. ⌜ ((I : List ℕ) (q : ℕ) → length I ≡ 16 → start ≡ chainStart I q → Fed I q (endOf I q d (now (signature .entry))) i state → Fed I q (endOf I q d (now (signature .entry))) (i + 1) r) ⌝ }
 {
     let end = chain_end(start, i, d[i], signature);
     state.feed(&end)

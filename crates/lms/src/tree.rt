@@ -11,7 +11,7 @@ pub fn leaf_node(id: [u8; 16], node: u32, key: [u8; 32]) -> [u8; 32]
 }
 
 // The value of the inner node with the given number, by its two children.
-fn inner_node(id: [u8; 16], node: u32, left: [u8; 32], right: [u8; 32]) -> [u8; 32]
+pub fn inner_node(id: [u8; 16], node: u32, left: [u8; 32], right: [u8; 32]) -> [u8; 32]
     ensures { λ r. ⌜ r ≡ innerNode id node left right ⌝ }
 {
     begun(id, node, 0x83).feed(&left).feed(&right).finish()

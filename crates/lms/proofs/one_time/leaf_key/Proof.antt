@@ -10,7 +10,8 @@ use lib.ListN.{length, take}
 use Rattle.wire.specs.Numbers.{bytes}
 use Rattle.sha256.specs.Digest.{sha256}
 use Rattle.lms.specs.declared.one_time.Walked.{Walked}
-use Rattle.lms.specs.OneTime.{deficit, ends, leafKey, stepCount}
+use Rattle.lms.specs.OneTime.{deficit, digits, endOf, keyOfEnds, leafKey, stepCount}
+use Rattle.lms.specs.Rows.{row}
 use Rattle.lms.specs.Walked.{chainStart, Fed}
 use Rattle.lms.proofs.Laws.{deficit-more, start-identifier, none-fed}
 use Rattle.lms.proofs.one_time.leaf_key.Statement.{statement}
@@ -21,7 +22,7 @@ answered k k′ s s′ p q = cc
 
 abbrev Inv-loop : tie.InvT-loop
 Inv-loop leaf signature d start state₀ steps₀ i₀ state steps i =
-    (i ≤ 34) × (steps ≡ deficit d i) × (steps ≤ 255 * i) × Fed (take 16 start) leaf d signature i state
+    (i ≤ 34) × (steps ≡ deficit d i) × (steps ≤ 255 * i) × Fed (take 16 start) leaf (endOf (take 16 start) leaf d signature) i state
 
 abbrev μ-loop : tie.MeasureT-loop
 μ-loop leaf signature d start state₀ steps₀ i₀ state steps i = 34 - i
@@ -34,8 +35,8 @@ loop-holds c =
     let entry = at-start .before .before .before in
     let a = entry .args in
     let same = start-identifier (a .id) _ (a .leaf) (good-length (eInt w8) 16 (a .id) _ (entry .good .0)) (at-start .chain-start .ensures) in
-    let fed : List ℕ → Type 0 = λ I. Fed I (a .leaf) (d .result) (a .signature .now) 0 (c .begun .result) in
-    (omega arith, refl, omega arith, subst fed same (none-fed _ _ _ _ _ (c .begun .ensures)))
+    let fed : List ℕ → Type 0 = λ I. Fed I (a .leaf) (endOf I (a .leaf) (d .result) (a .signature .now)) 0 (c .begun .result) in
+    (omega arith, refl, omega arith, subst fed same (none-fed _ _ _ _ (c .begun .ensures)))
 
 loop-again : tie.Need-loop-again Inv-loop μ-loop
 loop-again c =
@@ -55,7 +56,7 @@ loop-again c =
     )
 
 returns : tie.Need-returns Inv-loop μ-loop
-unfolding leafKey stepCount
+unfolding leafKey keyOfEnds stepCount
 returns c =
     let at-loop = c .before .before in
     let l = at-loop .loop in
@@ -65,7 +66,7 @@ returns c =
     let a = entry .args in
     let n : l .i ≡ 34 = omega arith in
     let same = start-identifier (a .id) _ (a .leaf) (good-length (eInt w8) 16 (a .id) _ (entry .good .0)) (at-start .chain-start .ensures) in
-    let hash : List ℕ → ℕ → List ℕ → List ℕ = λ I k ds. sha256 (I ++ bytes 4 (a .leaf) ++ bytes 2 0x8080 ++ ends I (a .leaf) ds (a .signature .now) k) in
+    let hash : List ℕ → ℕ → List ℕ → List ℕ = λ I k ds. sha256 (I ++ bytes 4 (a .leaf) ++ bytes 2 0x8080 ++ row (endOf I (a .leaf) ds (a .signature .now)) k) in
     answered _ _ _ _
     (c .finish .ensures _ (l .inv .3 .taken)
     ∙ ap (λ (I : List ℕ). hash I (l .i) (d .result)) (sym same)

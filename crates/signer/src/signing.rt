@@ -1,0 +1,141 @@
+// Signing.
+ghost use mathlib.Core.Path.{_≡_};
+ghost use mathlib.Core.List.{List, _++_};
+ghost use Prim.Native.Nat.{ℕ, _<_, _≤_};
+ghost use lib.ListN.{length, replicate};
+ghost use Rattle.wire.specs.Numbers.{bytes};
+ghost use Rattle.lms.specs.Layout.{identifier};
+ghost use Rattle.lms.specs.Rows.{row};
+ghost use Rattle.signer.specs.Signature.{siblingOf, pathOf, signedString, signatureOf};
+ghost use Rattle.signer.specs.Answers.{refused, signOf};
+use crate::state::Node;
+use crate::state::Signature;
+use crate::state::SignedMessage;
+use crate::state::Signer;
+use crate::strings::chain_string;
+use lms::chain_start;
+use lms::digits_of;
+use lms::message_hash;
+use wire::copy_into;
+use wire::digest_at;
+use wire::id_at;
+use wire::u32_bytes;
+
+// The leaf, the one-time type and C, before zeros.
+fn front(leaf: u32, nonce: [u8; 32]) -> [u8; 1452]
+    ensures { λ r. ⌜ r ≡ bytes 4 leaf ++ bytes 4 4 ++ nonce ++ replicate 1412 0 ⌝ }
+{
+    let number = u32_bytes(leaf);
+    let four = u32_bytes(4);
+    let mut signature = [0u8; 1452];
+    copy_into(&number, &mut signature, 0);
+    copy_into(&four, &mut signature, 4);
+    copy_into(&nonce, &mut signature, 8);
+    signature
+}
+
+// The 34 strings, written behind the first 40 bytes.
+fn with_strings(
+    begun: [u8; 1452],
+    id: [u8; 16],
+    leaf: u32,
+    digits: [u8; 34],
+    seed: [u8; 32],
+) -> [u8; 1452]
+    ensures { λ r. ⌜ ((a : List ℕ) → length a ≡ 40 → begun ≡ a ++ replicate 1412 0 → r ≡ a ++ row (signedString seed id leaf digits) 34 ++ replicate 324 0) ⌝ }
+{
+    let start = chain_start(id, leaf);
+    let mut signature = begun;
+    for i in 0..34 {
+        let string = chain_string(start, i, digits[i], seed);
+        copy_into(&string, &mut signature, 40 + 32 * i);
+    }
+    signature
+}
+
+// The other child of a node's parent.
+fn sibling(node: usize) -> usize
+    requires { ⌜ node < 2048 ⌝ }
+    ensures { λ r. ⌜ (r ≡ siblingOf node) × (r < 2048) ⌝ }
+{
+    if node % 2 == 1 { node - 1 } else { node + 1 }
+}
+
+// The value of a node.
+fn value_of(node: Node) -> [u8; 32]
+    ensures { λ r. ⌜ (r ≡ node .value) × (length r ≡ 32) ⌝ }
+{
+    let value = node.value;
+    value
+}
+
+// The ten path strings, written behind the first 1,132 bytes.
+fn with_path(begun: [u8; 1452], leaf: u32, nodes: [Node; 2048]) -> [u8; 1452]
+    requires { ⌜ leaf < 1024 ⌝ }
+    ensures { λ r. ⌜ ((a : List ℕ) → length a ≡ 1132 → begun ≡ a ++ replicate 320 0 → r ≡ a ++ row (pathOf nodes leaf) 10) ⌝ }
+{
+    let mut signature = begun;
+    let mut node = 1024 + leaf as usize;
+    for i in 0..10 {
+        let found = nodes[sibling(node)];
+        let value = value_of(found);
+        copy_into(&value, &mut signature, 1132 + 32 * i);
+        node = node / 2;
+    }
+    signature
+}
+
+// The signature with a signer's next leaf.
+fn signature_by(signer: Signer, nonce: [u8; 32], message: &[u8]) -> [u8; 1452]
+    requires { ⌜ (signer .next < 1024) × (length (now message) ≤ 1024) ⌝ }
+    ensures { λ r. ⌜ r ≡ signatureOf (signer .seed) (identifier (signer .key)) (signer .nodes) (signer .next) nonce (now (message .entry)) ⌝ }
+{
+    let key = signer.key;
+    let seed = signer.seed;
+    let nodes = signer.nodes;
+    let leaf = signer.next;
+    let id = id_at(&key, 8);
+    let hash = message_hash(id, leaf, nonce, message);
+    let digits = digits_of(hash);
+    let begun = front(leaf, nonce);
+    let mut signature = with_strings(begun, id, leaf, digits, seed);
+    let six = u32_bytes(6);
+    copy_into(&six, &mut signature, 1128);
+    with_path(signature, leaf, nodes)
+}
+
+// A signing that is refused: zeros, and the signer as it is.
+fn kept(refusal: u32, signer: Signer) -> SignedMessage
+    ensures { λ r. ⌜ r ≡ refused refusal signer ⌝ }
+{
+    let signature = Signature {
+        refusal,
+        bytes: [0u8; 1452],
+    };
+    SignedMessage { signer, signature }
+}
+
+// Signs a message of at most 1,024 bytes with a C of 32 and the signer's next leaf, and moves to the next. Another length is refused with 2, and then a
+// next leaf of 1,024 or more with 15.
+pub fn signed(signer: Signer, nonce: &[u8], message: &[u8]) -> SignedMessage
+    ensures { λ r. ⌜ r ≡ signOf signer (now (nonce .entry)) (now (message .entry)) ⌝ }
+{
+    if nonce.len() != 32 {
+        return kept(2, signer);
+    }
+    if 1024 < message.len() {
+        return kept(2, signer);
+    }
+    let leaf = signer.next;
+    if 1024 <= leaf {
+        return kept(15, signer);
+    }
+    let bytes = signature_by(signer, digest_at(nonce, 0), message);
+    let signature = Signature { refusal: 0, bytes };
+    let mut moved = signer;
+    moved.next = leaf + 1;
+    SignedMessage {
+        signer: moved,
+        signature,
+    }
+}
