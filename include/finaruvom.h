@@ -1,14 +1,14 @@
 // The channel arbiter for C (C11) and C++ (C++11) on x86-64 Linux: link libfinaruvom.a, which `rt staticlib finaruvom` makes.
 // What the bytes of a command mean stands in docs/FORMAT.md. Every program part that includes this header is linked with the library.
 //
-// Any bytes may stand in a book and in a command: nothing is asked of them. What is asked of the caller stands under "Duties" at each function, in these
-// words:
+// Any bytes may stand in a book, in a signer and in a command: nothing is asked of them. What is asked of the caller stands under "Duties" at each function,
+// in these words:
 // - not null: the pointer is not NULL, not even where the length beside it is 0 (lend any object then), and as many bytes stand there as the length says;
-// - aligned: the address is a multiple of 8, as that of a variable of the type is, and what malloc gives;
+// - aligned: the address is a multiple of 8, of a signer of 4, as that of a variable of the type is, and what malloc gives;
 // - alone: during the call nobody else reads or writes it, and it overlaps nothing else that the call is lent;
 // - shared: others may read it at the same time, but nobody writes it;
 // - stack: the bytes of stack that the thread has left are at least these.
-// No call allocates, keeps a pointer, has a state of its own or fails to end. Different books are independent of each other.
+// No call allocates, keeps a pointer, has a state of its own or fails to end. Different books are independent of each other, and so are different signers.
 #ifndef FINARUVOM_H
 #define FINARUVOM_H
 #include <stdbool.h>
@@ -22,7 +22,7 @@ extern "C" {
 #define FINARUVOM_ASSERT _Static_assert
 #endif
 
-// A call whose answer must be looked at: a dropped answer is a lost payment.
+// A call whose answer must be looked at: a dropped answer is a lost payment, or a leaf used for nothing.
 #define FINARUVOM_CALL __attribute__((nonnull, warn_unused_result))
 
 // What the linker keeps though nothing reads it.
@@ -34,11 +34,11 @@ extern "C" {
 
 // The version that this header belongs to, and the number of the book's layout, which the mark of every book carries.
 #define FINARUVOM_VERSION_MAJOR 0
-#define FINARUVOM_VERSION_MINOR 12
+#define FINARUVOM_VERSION_MINOR 13
 #define FINARUVOM_VERSION_PATCH 0
 #define FINARUVOM_LAYOUT 3
 
-// Sizes in bytes, and the number of channels.
+// Sizes in bytes, the number of channels, and those of a signer's leaves and places for nodes.
 #define FINARUVOM_ID_SIZE 16
 #define FINARUVOM_KEY_SIZE 56
 #define FINARUVOM_SIGNATURE_SIZE 1452
@@ -55,6 +55,13 @@ extern "C" {
 #define FINARUVOM_FOUND_SIZE 2
 #define FINARUVOM_RAN_SIZE 24
 #define FINARUVOM_VERSIONS_SIZE 16
+#define FINARUVOM_SEED_SIZE 32
+#define FINARUVOM_NONCE_SIZE 32
+#define FINARUVOM_LONGEST_MESSAGE 1024
+#define FINARUVOM_LEAVES 1024
+#define FINARUVOM_NODES 2048
+#define FINARUVOM_NODE_SIZE 32
+#define FINARUVOM_SIGNER_SIZE 65628
 
 // Delays in seconds: the shortest and the longest, and what a delay of 0 stands for in a book of the plain opening and in a new one of the desk.
 #define FINARUVOM_SHORTEST_DELAY 3600
@@ -70,6 +77,8 @@ extern "C" {
 #define FINARUVOM_STACK_RUN 24576
 #define FINARUVOM_STACK_READ 32768
 #define FINARUVOM_STACK_DUE 20480
+#define FINARUVOM_STACK_MAKE_KEY 77824
+#define FINARUVOM_STACK_SIGN 147456
 
 // Refusals, in the order in which a call makes its checks.
 enum finaruvom_refusal {
@@ -78,6 +87,7 @@ enum finaruvom_refusal {
     FINARUVOM_UNKNOWN = 1,         // no first byte, or it is no command
     FINARUVOM_LENGTH = 2,
     FINARUVOM_SETTINGS_DELAY = 14, // the default delay given at an opening is out of range
+    FINARUVOM_NO_LEAF = 15,        // the signer's leaves are all used
     FINARUVOM_TIME = 3,            // before the clock, or above 2^63 - 1
     FINARUVOM_CHANNEL = 4,         // not below 64
     FINARUVOM_STATUS = 5,          // the channel's status does not allow it
@@ -187,6 +197,27 @@ struct finaruvom_versions {
     uint32_t layout;
 };
 
+// A node of a signer's tree.
+struct finaruvom_node {
+    uint8_t value[FINARUVOM_DIGEST_SIZE];
+};
+
+// A till's key of LMS type 6 over one-time type 4, with the private strings of RFC 8554 Appendix A. The seed is the private key: who reads it signs in the
+// till's name. A leaf signs once. A signer that is copied, or put back to an older state, signs twice with one leaf and spoils the key: write the moved
+// signer down, durably, before the signature leaves the till.
+struct finaruvom_signer {
+    uint8_t key[FINARUVOM_KEY_SIZE]; // the public key: types 6 and 4, identifier and root
+    uint8_t seed[FINARUVOM_SEED_SIZE];
+    uint32_t next; // the leaf that signs next, in the machine's byte order; from FINARUVOM_LEAVES on none does
+    struct finaruvom_node nodes[FINARUVOM_NODES]; // node r at place r: the root at 1, the leaves from FINARUVOM_LEAVES on, zeros at 0
+};
+
+// What a signing answers: the refusal, or 0, and the signature, which is zeros where it was refused.
+struct finaruvom_signature {
+    uint32_t refusal;
+    uint8_t bytes[FINARUVOM_SIGNATURE_SIZE];
+};
+
 FINARUVOM_ASSERT(sizeof(struct finaruvom_party) == FINARUVOM_PARTY_SIZE, "party");
 FINARUVOM_ASSERT(sizeof(struct finaruvom_channel) == FINARUVOM_CHANNEL_SIZE, "channel");
 FINARUVOM_ASSERT(sizeof(struct finaruvom_setup) == FINARUVOM_SETUP_SIZE, "setup");
@@ -198,6 +229,9 @@ FINARUVOM_ASSERT(sizeof(struct finaruvom_reading) == FINARUVOM_READING_SIZE, "re
 FINARUVOM_ASSERT(sizeof(struct finaruvom_found) == FINARUVOM_FOUND_SIZE, "found");
 FINARUVOM_ASSERT(sizeof(struct finaruvom_ran) == FINARUVOM_RAN_SIZE, "ran");
 FINARUVOM_ASSERT(sizeof(struct finaruvom_versions) == FINARUVOM_VERSIONS_SIZE, "versions");
+FINARUVOM_ASSERT(sizeof(struct finaruvom_node) == FINARUVOM_NODE_SIZE, "node");
+FINARUVOM_ASSERT(sizeof(struct finaruvom_signer) == FINARUVOM_SIGNER_SIZE, "signer");
+FINARUVOM_ASSERT(sizeof(struct finaruvom_signature) == sizeof(uint32_t) + FINARUVOM_SIGNATURE_SIZE, "signature");
 
 // The library's version and layout, to be compared with the numbers above. No duties.
 struct finaruvom_versions finaruvom_version(void);
@@ -252,6 +286,19 @@ FINARUVOM_CALL struct finaruvom_found finaruvom_due(const struct finaruvom_book 
 // Duties: book not null, aligned, alone; commands not null, shared; lines not null, lines_n of them, aligned, alone; stack FINARUVOM_STACK_RUN.
 FINARUVOM_CALL struct finaruvom_ran finaruvom_run(struct finaruvom_book *book, const uint8_t *commands, size_t commands_n,
                                                   struct finaruvom_line *lines, size_t lines_n);
+
+// Makes the key of a seed of 32 bytes and an identifier of 16, both taken at random, in the lent signer, with leaf 0 as the next, and answers 0; it takes
+// seconds. Another length gives 2. What stood in the signer is written over, also where it is refused: then with zeros, but FINARUVOM_LEAVES as the next leaf,
+// so that it signs nothing.
+// Duties: signer not null, aligned, alone; seed, id not null, shared; stack FINARUVOM_STACK_MAKE_KEY.
+FINARUVOM_CALL uint32_t finaruvom_make_key(struct finaruvom_signer *signer, const uint8_t *seed, size_t seed_n, const uint8_t *id, size_t id_n);
+
+// Signs a message with the signer's next leaf and the RFC's C, 32 bytes taken at random for each signature, and moves the signer to the leaf behind. A C of
+// another length or a message of more than FINARUVOM_LONGEST_MESSAGE bytes gives 2, then no leaf left 15, and the signer keeps every value. It is written
+// also where it is refused, with what stood there.
+// Duties: signer not null, aligned, alone; nonce, message not null, shared; stack FINARUVOM_STACK_SIGN.
+FINARUVOM_CALL struct finaruvom_signature finaruvom_sign(struct finaruvom_signer *signer, const uint8_t *nonce, size_t nonce_n, const uint8_t *message,
+                                                         size_t message_n);
 
 #ifdef __cplusplus
 }

@@ -1,5 +1,6 @@
-// How often each call copies the book and how much stack it takes, held to limits: a command copies the book out of the lender's memory and
-// back, and no more, and the stack is what the header says. A further copy that the compiler wrote without a call would show on the stack.
+// How often each call copies the book or the signer and how much stack it takes, held to limits: a command copies the book out of the lender's memory
+// and back, and no more, and the stack is what the header says. A further copy that the compiler wrote without a call would show on the stack.
+// With --short it makes no key, which takes seconds.
 #define _XOPEN_SOURCE 700
 #include "../bench/copied.h"
 #include <stdio.h>
@@ -7,9 +8,19 @@
 #include <string.h>
 #include <ucontext.h>
 
-enum { N = 5, CLOCK = 1000, STACK = 1 << 18, PAINT = 0xA5, MUTUAL = 5 };
+enum { N = 5, CLOCK = 1000, STACK = 1 << 19, PAINT = 0xA5, MUTUAL = 5, MAKING_COPIES = 1, SIGNING_COPIES = 4 };
+
+// What a call is lent, how often it copies that at most, and how many bytes it copies in all; a key making copies some 780 for each leaf.
+struct lent {
+    const char *name;
+    size_t copies, bytes;
+};
+static const struct lent lent_book = {"book", 2, 2 * FINARUVOM_BOOK_SIZE + 4096};
+static const struct lent lent_to_make = {"signer", MAKING_COPIES, MAKING_COPIES * FINARUVOM_SIGNER_SIZE + 800 * FINARUVOM_LEAVES};
+static const struct lent lent_to_sign = {"signer", SIGNING_COPIES, SIGNING_COPIES * FINARUVOM_SIGNER_SIZE + 4096};
 
 static struct finaruvom_book book;
+static struct finaruvom_signer signer;
 static uint8_t command[2955];
 static size_t command_n;
 static struct finaruvom_answer answer;
@@ -141,6 +152,19 @@ static void check(void) {
     answer.refusal |= good || answer.steps == 0;
 }
 
+// A key making, and signings with what the making left; a length or a next leaf that is refused.
+static size_t nonce_n = FINARUVOM_NONCE_SIZE, id_n = FINARUVOM_ID_SIZE;
+
+static void make_key(void) {
+    static const uint8_t seed[FINARUVOM_SEED_SIZE] = {7}, id[FINARUVOM_ID_SIZE + 1] = {9};
+    answer = (struct finaruvom_answer){.refusal = finaruvom_make_key(&signer, seed, sizeof seed, id, id_n)};
+}
+
+static void sign_message(void) {
+    static const uint8_t nonce[FINARUVOM_NONCE_SIZE + 1] = {5};
+    answer = (struct finaruvom_answer){.refusal = finaruvom_sign(&signer, nonce, nonce_n, command, FINARUVOM_LONGEST_MESSAGE).refusal};
+}
+
 static ucontext_t here, there;
 static uint8_t stack[STACK];
 
@@ -164,20 +188,24 @@ static int wrong;
 // What the dynamic linker takes in a first call, to find memcpy: by an opening, which calls it from its deepest frame.
 static size_t binding;
 
-// Makes the call, prints what it took, and holds it to the limits: two books copied and little else for each of its `turns`, and the bytes of
-// stack that the header names, also for a first call. Gives the bytes of stack.
-static size_t measure(const char *name, void (*call)(void), bool expected(void), size_t turns, size_t limit) {
+// Makes the call, prints what it took, and holds it to the limits: the copies for each of its `turns`, and the bytes of stack that the header names,
+// also for a first call. A copy as large as a book's channels counts, of a signer too. Gives the bytes of stack.
+static size_t measure_lent(const struct lent *lent, const char *name, void (*call)(void), bool expected(void), size_t turns, size_t limit) {
     size_t took = stack_of(call), copies = (books_copied + turns - 1) / turns;
-    bool answer_good = expected(), small = copies <= 2 && copied <= turns * (2 * sizeof book + 4096) && took + binding <= limit;
-    printf("%-20s copies of the book %zu, bytes copied %6zu, of stack %6zu%s%s\n", name, copies, copied / turns, took, answer_good ? "" : ": ANOTHER ANSWER",
-           small ? "" : ": OVER ITS LIMIT");
+    bool answer_good = expected(), small = copies <= lent->copies && copied <= turns * lent->bytes && took + binding <= limit;
+    printf("%-20s copies of the %s %zu, bytes copied %6zu, of stack %6zu%s%s\n", name, lent->name, copies, copied / turns, took,
+           answer_good ? "" : ": ANOTHER ANSWER", small ? "" : ": OVER ITS LIMIT");
     wrong |= !answer_good || !small;
     return took;
 }
 
-// The check keeps no list of its chain ends, 34 of 32 bytes: it takes some 2,700 bytes of stack, and with one it would take more than this.
+static size_t measure(const char *name, void (*call)(void), bool expected(void), size_t turns, size_t limit) {
+    return measure_lent(&lent_book, name, call, expected, turns, limit);
+}
+
+// The check keeps no list of its chain ends, 34 of 32 bytes: it takes some 3,500 bytes of stack, and with one it would take more than this.
 static void keeps_no_list(size_t check_took) {
-    if (check_took > 3584) {
+    if (check_took > 4096) {
         printf("the check takes more than it should WITHOUT A LIST OF CHAIN ENDS\n");
         wrong = 1;
     }
@@ -201,7 +229,24 @@ static bool answered_0(void) {
     return answer.refusal == 0;
 }
 
-int main(void) {
+// A key making, which may be left out, and a signing, accepted and refused.
+static void signers(bool makes) {
+    refusal = 0;
+    if (makes)
+        measure_lent(&lent_to_make, "make a key", make_key, refused, 1, FINARUVOM_STACK_MAKE_KEY);
+    measure_lent(&lent_to_sign, "sign", sign_message, refused, 1, FINARUVOM_STACK_SIGN);
+    signer.next = FINARUVOM_LEAVES;
+    refusal = 15;
+    measure_lent(&lent_to_sign, "sign refused with 15", sign_message, refused, 1, FINARUVOM_STACK_SIGN);
+    refusal = 2;
+    nonce_n++;
+    measure_lent(&lent_to_sign, "sign refused with 2", sign_message, refused, 1, FINARUVOM_STACK_SIGN);
+    id_n++;
+    measure_lent(&lent_to_make, "make refused with 2", make_key, refused, 1, FINARUVOM_STACK_MAKE_KEY);
+}
+
+int main(int argc, char **argv) {
+    bool makes = argc < 2 || strcmp(argv[1], "--short") != 0;
     size_t first = stack_of(open_book);
     binding = first - stack_of(open_book);
     printf("a first call takes %zu bytes of stack more\n", binding);
@@ -226,5 +271,6 @@ int main(void) {
     measure("open with settings", open_desk_book, answered_0, 1, FINARUVOM_STACK_OPEN);
     refusal = 14;
     measure("open refused with 14", open_without_default, refused, 1, FINARUVOM_STACK_OPEN);
+    signers(makes);
     return wrong;
 }

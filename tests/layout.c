@@ -19,6 +19,9 @@ AT(reading, refusal, 32); AT(reading, status, 36); AT(reading, lock, 40);
 SIZE(found, 2); AT(found, some, 0); AT(found, channel, 1);
 SIZE(ran, 24); AT(ran, lines, 0); AT(ran, used, 8); AT(ran, cause, 16);
 SIZE(versions, 16); AT(versions, major, 0); AT(versions, minor, 4); AT(versions, patch, 8); AT(versions, layout, 12);
+SIZE(node, 32); AT(node, value, 0);
+SIZE(signer, 65628); AT(signer, key, 0); AT(signer, seed, 56); AT(signer, next, 88); AT(signer, nodes, 92);
+SIZE(signature, 1456); AT(signature, refusal, 0); AT(signature, bytes, 4);
 
 // The sizes of the fields add up to the struct's: there is no padding.
 #define OF(type, field) sizeof(((struct finaruvom_##type *)0)->field)
@@ -36,6 +39,9 @@ FILLED(reading, OF(reading, total) + OF(reading, held) + OF(reading, deadline) +
 FILLED(found, OF(found, some) + OF(found, channel));
 FILLED(ran, OF(ran, lines) + OF(ran, used) + OF(ran, cause));
 FILLED(versions, OF(versions, major) + OF(versions, minor) + OF(versions, patch) + OF(versions, layout));
+FILLED(node, OF(node, value));
+FILLED(signer, OF(signer, key) + OF(signer, seed) + OF(signer, next) + OF(signer, nodes));
+FILLED(signature, OF(signature, refusal) + OF(signature, bytes));
 
 static void same(const char *what, const void *bytes, size_t place, const void *expected, size_t n) {
     if (memcmp((const uint8_t *)bytes + place, expected, n) != 0) {
@@ -187,12 +193,44 @@ static void closing(void) {
     number("due", &found, 0, 0, 2);
 }
 
+// A signing with leaf 5 of a signer that holds any bytes; node 1,028 is the leaf beside.
+static void signing(void) {
+    static const uint8_t nonce[32] = {9, 8, 7};
+    static struct finaruvom_signer signer, before;
+    for (size_t i = 0; i < sizeof signer; i++)
+        ((uint8_t *)&signer)[i] = (uint8_t)(i * 7 + i / 256);
+    signer.next = 5;
+    before = signer;
+    struct finaruvom_signature made = finaruvom_sign(&signer, nonce, sizeof nonce, nonce, 1);
+    number("refusal of a signing", &made, 0, 0, 4);
+    same("leaf and one-time type", &made, 4, (const uint8_t[]){0, 0, 0, 5, 0, 0, 0, 4}, 8);
+    same("nonce", &made, 12, nonce, sizeof nonce);
+    same("type", &made, 1132, (const uint8_t[]){0, 0, 0, 6}, 4);
+    same("the node beside the leaf", &made, 1136, (const uint8_t *)&before + 92 + 32 * 1028, 32);
+    number("the leaf behind", &signer, 88, 6, 4);
+    same("key and seed", &signer, 0, &before, 88);
+    same("tree", &signer, 92, (const uint8_t *)&before + 92, sizeof signer - 92);
+}
+
+// Whatever stood there, a key making that is refused leaves zeros but for the next leaf.
+static void not_made(void) {
+    static const uint8_t string[32] = {9};
+    static struct finaruvom_signer signer, zeros;
+    memset(&signer, 0xAA, sizeof signer);
+    answers("a refused key making", finaruvom_make_key(&signer, string, 31, string, 16), 2);
+    same("a signer's zeros", &signer, 0, &zeros, 88);
+    number("next leaf", &signer, 88, 1024, 4);
+    same("a tree's zeros", &signer, 92, &zeros, sizeof signer - 92);
+}
+
 int main(void) {
     version();
     settings();
     opened();
     established();
     closing();
+    signing();
+    not_made();
     puts("ok: every field stands where the header says, and no struct has padding");
     return 0;
 }

@@ -1,4 +1,4 @@
-// Random strings, books and lengths into every exported function: fuzz SECONDS [SEED].
+// Random strings, books, signers and lengths into every exported function: fuzz SECONDS [SEED].
 // The archive itself is not instrumented. AddressSanitizer sees its calls of memcpy on buffers of exact size, and pages
 // without access next to a buffer, or without writing where it is only read, stop any other access.
 #define _GNU_SOURCE
@@ -197,6 +197,46 @@ static void call_read(const struct finaruvom_book *book) {
     require(found.some ? found.channel < FINARUVOM_CHANNELS : found.channel == 0, "due: channel");
 }
 
+// A key making that is refused: an accepted one takes seconds.
+static void call_make_key(struct finaruvom_signer *signer) {
+    static const size_t seeds[] = {0, 1, 31, 33, 64}, ids[] = {0, 1, 15, 16, 17};
+    struct buffer seed = lend(seeds[below(5)]), id = lend(ids[below(5)]);
+    seal(&seed);
+    seal(&id);
+    require(finaruvom_make_key(signer, seed.bytes, seed.n, id.bytes, id.n) == FINARUVOM_LENGTH, "make_key: refusal");
+    require(signer->next == FINARUVOM_LEAVES, "make_key: next leaf");
+    give_back(seed);
+    give_back(id);
+}
+
+static void call_sign(struct finaruvom_signer *signer) {
+    static const size_t nonces[] = {0, 31, 32, 32, 32, 33}, messages[] = {0, 1, 67, 1023, 1024, 1025};
+    static const uint32_t nexts[] = {0, 1, 1022, 1023, 1024, UINT32_MAX};
+    struct buffer nonce = lend(nonces[below(6)]), message = lend(messages[below(6)]);
+    uint32_t next = signer->next = nexts[below(6)];
+    seal(&nonce);
+    seal(&message);
+    struct finaruvom_signature made = finaruvom_sign(signer, nonce.bytes, nonce.n, message.bytes, message.n);
+    bool fits = nonce.n == FINARUVOM_NONCE_SIZE && message.n <= FINARUVOM_LONGEST_MESSAGE;
+    uint32_t refusal = !fits ? FINARUVOM_LENGTH : next < FINARUVOM_LEAVES ? FINARUVOM_ACCEPTED : FINARUVOM_NO_LEAF;
+    require(made.refusal == refusal, "sign: refusal");
+    require(signer->next == next + (refusal == FINARUVOM_ACCEPTED), "sign: next leaf");
+    give_back(nonce);
+    give_back(message);
+}
+
+// Calls on one signer, which is random bytes.
+static void signings(void) {
+    struct buffer lent = lend(sizeof(struct finaruvom_signer));
+    struct finaruvom_signer *signer = (struct finaruvom_signer *)lent.bytes;
+    for (int i = 0; i < 3; i++) {
+        call_sign(signer);
+    }
+    call_make_key(signer);
+    call_sign(signer);
+    give_back(lent);
+}
+
 // Some calls on one book, which is opened, or random bytes, or opened and then changed in one place.
 static void one_round(void) {
     struct buffer lent = lend(sizeof(struct finaruvom_book));
@@ -219,6 +259,7 @@ static void one_round(void) {
     call_open_with(book);
     call_check();
     call_hash();
+    signings();
     give_back(lent);
 }
 

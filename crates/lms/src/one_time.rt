@@ -8,7 +8,8 @@ ghost use Rattle.lms.specs.OneTime.{messageHash, digits, stepCount, walk
 ghost use Rattle.lms.specs.Walked.{chainStart, Fed, walkedOf};
 use crate::prefix::begun;
 use sha256::Sha256;
-use sha256::hash_pair;
+use sha256::block_digest;
+use sha256::pair_block;
 use wire::copy_into;
 use wire::digest_at;
 use wire::u32_bytes;
@@ -60,13 +61,13 @@ pub fn step_count(hash: [u8; 32]) -> u32
 pub fn chain(start: [u8; 23], from: u8, to: u8, x: [u8; 32]) -> [u8; 32]
     ensures { λ r. ⌜ r ≡ walk (take 22 start) (to - from) from x ⌝ }
 {
-    let mut prefix = start;
-    let mut value = x;
+    let mut block = pair_block(&start, &x);
     for j in from..to {
-        prefix[22] = j;
-        value = hash_pair(&prefix, &value);
+        block[22] = j;
+        let hash = block_digest(&block);
+        copy_into(&hash, &mut block, 23);
     }
-    value
+    digest_at(&block, 23)
 }
 
 // What each chain's hashes begin with, before the chain's number and the step's.

@@ -6,7 +6,9 @@ mod bytes;
 mod pair;
 mod state;
 
+pub use pair::block_digest;
 pub use pair::hash_pair;
+pub use pair::pair_block;
 pub use state::Sha256;
 
 // What `hash` answers: the refusal, or 0, and the digest.

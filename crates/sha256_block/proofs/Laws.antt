@@ -1,15 +1,18 @@
 -- Laws of the schedule and of the rounds, by which the code's steps, taken one by one, are the definition's.
-use Prim.Native.Nat.{ℕ, zero, suc, _+_, _-_, _≤_, _<_}
+use Prim.Native.Nat.{ℕ, zero, suc, _+_, _-_, _*_, _≤_, _<_}
 use native.Mathlib.Omega.{arith}
 use native.Mathlib.Nat.{zero-add, suc-add, add-assoc}
 use mathlib.Core.Path.{_≡_, refl, ap, _∙_, sym}
-use mathlib.Core.List.{List, [], _∷_, _++_, append-assoc}
+use mathlib.Core.List.{List, [], _∷_, _++_, append-assoc, append-nil}
+use mathlib.Core.Bool.{Bool, true, false}
+use borrow.Author.Tests.{ltb-true, ltb-false}
+use lib.Dec.{ltb}
 use lib.ListN.{length, getD, take, drop, length-append}
 use lib.Seq.{getD-append-add, getD-take, getD-drop}
 use Rattle.wire.specs.Numbers.{u32At}
 use Rattle.sha256_block.specs.declared.rounds.Variables.{Variables}
-use Rattle.sha256_block.specs.Constants.{K, K₀, K₁₆, K₃₂, K₄₈}
-use Rattle.sha256_block.specs.Block.{roundOf, rounds, extended, Wₜ, schedule, sumOf, compressOf, words}
+use Rattle.sha256_block.specs.Constants.{K}
+use Rattle.sha256_block.specs.Block.{roundOf, rounds, extended, Wₜ}
 
 -- One round, and the rest.
 pub turn : (k w : ℕ) (ks ws : List ℕ) (v : Variables) {u r : Variables} → u ≡ roundOf v k w → r ≡ rounds ks ws u → r ≡ rounds (k ∷ ks) (w ∷ ws) v
@@ -53,23 +56,10 @@ extended-front (suc n) p w h =
     let e : (p ++ w) ++ Wₜ (p ++ w) ∷ [] ≡ p ++ (w ++ Wₜ w ∷ []) = ap (λ (x : ℕ). (p ++ w) ++ x ∷ []) (next-front p w h) ∙ append-assoc p w (Wₜ w ∷ []) in
     ap (extended n) e ∙ extended-front n p (w ++ Wₜ w ∷ []) (omega (arith, length-append w (Wₜ w ∷ [])))
 
-extended-length : (n : ℕ) (w : List ℕ) → length (extended n w) ≡ length w + n
-unfolding extended
-extended-length zero w = omega arith
-extended-length (suc n) w = omega (arith, extended-length n (w ++ Wₜ w ∷ []), length-append w (Wₜ w ∷ []))
-
-added : (x y : List ℕ) → extended 16 x ≡ x ++ y → length y ≡ 16
-added x y p = omega (arith, extended-length 16 x, ap length p, length-append x y)
-
--- The schedule, sixteen words at a time.
-windows : (x y z u : List ℕ) → extended 16 x ≡ x ++ y → extended 16 y ≡ y ++ z → extended 16 z ≡ z ++ u → schedule x ≡ x ++ (y ++ (z ++ u))
-unfolding schedule
-windows x y z u p q r =
-    extended-add 16 32 x
-    ∙ ap (extended 32) p
-    ∙ extended-front 32 x y (omega (arith, added x y p))
-    ∙ ap (λ (l : List ℕ). x ++ l)
-    (extended-add 16 16 y ∙ ap (extended 16) q ∙ extended-front 16 y z (omega (arith, added y z q)) ∙ ap (λ (l : List ℕ). y ++ l) r)
+-- No constant is left.
+pub none-left : (ws : List ℕ) (v : Variables) → v ≡ rounds [] ws v
+unfolding rounds
+none-left ws v = refl
 
 -- Rounds, and then some.
 rounds-then : (ks ws ls us : List ℕ) (v : Variables) → length ks ≡ length ws → rounds (ks ++ ls) (ws ++ us) v ≡ rounds ls us (rounds ks ws v)
@@ -79,19 +69,33 @@ rounds-then [] (w ∷ ws) ls us v h = absurd (omega arith)
 rounds-then (k ∷ ks) [] ls us v h = absurd (omega arith)
 rounds-then (k ∷ ks) (w ∷ ws) ls us v h = rounds-then ks ws ls us (roundOf v k w) (omega arith)
 
--- A block, sixteen rounds at a time.
-pub block : (h v₁ v₂ v₃ v₄ r : Variables) (x y z u b : List ℕ) → x ≡ words b
-    → extended 16 x ≡ x ++ y → extended 16 y ≡ y ++ z → extended 16 z ≡ z ++ u
-    → v₁ ≡ rounds K₀ x h → v₂ ≡ rounds K₁₆ y v₁ → v₃ ≡ rounds K₃₂ z v₂ → v₄ ≡ rounds K₄₈ u v₃ → r ≡ sumOf h v₄ → r ≡ compressOf h b
-unfolding compressOf words
-block h v₁ v₂ v₃ v₄ r x y z u b e p q s e₁ e₂ e₃ e₄ f =
-    let w : rounds K (x ++ (y ++ (z ++ u))) h ≡ rounds K₄₈ u (rounds K₃₂ z (rounds K₁₆ y (rounds K₀ x h))) =
-    rounds-then K₀ x (K₁₆ ++ K₃₂ ++ K₄₈) (y ++ (z ++ u)) h (sym (ap length e))
-    ∙ rounds-then K₁₆ y (K₃₂ ++ K₄₈) (z ++ u) _ (sym (added x y p))
-    ∙ rounds-then K₃₂ z K₄₈ u _ (sym (added y z q)) in
-    f
-    ∙ ap (sumOf h) (e₄ ∙ ap (rounds K₄₈ u) (e₃ ∙ ap (rounds K₃₂ z) (e₂ ∙ ap (rounds K₁₆ y) e₁)) ∙ sym w)
-    ∙ ap (λ (l : List ℕ). sumOf h (rounds K l h)) (sym (windows x y z u p q s) ∙ ap schedule e)
+-- Sixteen rounds of those that are left, before quarter i of a block: w is its words and w′ those of the next quarter, where there is one.
+pub quarter : (i : ℕ) (ks w w′ : List ℕ) (v v′ : Variables) → i < 4 → drop (16 * i) K ≡ ks ++ drop (16 * (i + 1)) K → length ks ≡ length w → length w′ ≡ 16
+    → (i < 3 → extended 16 w ≡ w ++ w′) → v′ ≡ rounds ks w v
+    → rounds (drop (16 * i) K) (extended (48 - 16 * i) w) v ≡ rounds (drop (16 * (i + 1)) K) (extended (48 - 16 * (i + 1)) w′) v′
+quarter i ks w w′ v v′ h k l m next e = go (ltb i 3) refl where
+  go : (b : Bool) → ltb i 3 ≡ b → rounds (drop (16 * i) K) (extended (48 - 16 * i) w) v ≡ rounds (drop (16 * (i + 1)) K) (extended (48 - 16 * (i + 1)) w′) v′
+  go true t =
+      let n : 48 - 16 * i ≡ 16 + (48 - 16 * (i + 1)) = omega (arith, ltb-true i 3 t) in
+      let x : extended (48 - 16 * i) w ≡ w ++ extended (48 - 16 * (i + 1)) w′ =
+      ap (λ (j : ℕ). extended j w) n
+      ∙ extended-add 16 (48 - 16 * (i + 1)) w
+      ∙ ap (extended (48 - 16 * (i + 1))) (next (ltb-true i 3 t))
+      ∙ extended-front (48 - 16 * (i + 1)) w w′ (omega arith) in
+      ap (λ (u : List ℕ). rounds (drop (16 * i) K) u v) x
+      ∙ ap (λ (u : List ℕ). rounds u (w ++ extended (48 - 16 * (i + 1)) w′) v) k
+      ∙ rounds-then ks w (drop (16 * (i + 1)) K) (extended (48 - 16 * (i + 1)) w′) v l
+      ∙ ap (rounds (drop (16 * (i + 1)) K) (extended (48 - 16 * (i + 1)) w′)) (sym e)
+  go false t =
+      let n : i ≡ 3 = omega (arith, ltb-false i 3 t) in
+      let z : 48 - 16 * i ≡ 0 = omega arith in
+      let end : drop (16 * (i + 1)) K ≡ [] = ap (λ (j : ℕ). drop (16 * (j + 1)) K) n in
+      ap (λ (u : List ℕ). rounds u (extended (48 - 16 * i) w) v) (k ∙ ap (λ (u : List ℕ). ks ++ u) end ∙ append-nil ks)
+      ∙ ap (λ (j : ℕ). rounds ks (extended j w) v) z
+      ∙ ap (λ (u : List ℕ). rounds ks u v) (enough w)
+      ∙ sym e
+      ∙ none-left (extended (48 - 16 * (i + 1)) w′) v′
+      ∙ ap (λ (u : List ℕ). rounds u (extended (48 - 16 * (i + 1)) w′) v′) (sym end)
 
 -- A word of the block that starts at byte at of s.
 byte-in : (s : List ℕ) (at j : ℕ) → j < 64 → getD s (at + j) 0 ≡ getD (take 64 (drop at s)) j 0

@@ -1,7 +1,12 @@
 // The constants of the 64 rounds, sixteen to a value (FIPS 180-4, section 4.2.2). A value is named for its first round.
+ghost use mathlib.Core.Path.{_≡_};
+ghost use mathlib.Core.List.{[], _∷_};
+ghost use lib.ListN.{getD};
+ghost use Rattle.sha256_block.specs.Constants.{K₀, K₁₆, K₃₂, K₄₈};
+ghost use Rattle.sha256_block.specs.Listed.{listed};
 use crate::schedule::Words;
 
-pub const K_0: Words = Words {
+const K_0: Words = Words {
     w0: 0x428a2f98,
     w1: 0x71374491,
     w2: 0xb5c0fbcf,
@@ -20,7 +25,7 @@ pub const K_0: Words = Words {
     w15: 0xc19bf174,
 };
 
-pub const K_16: Words = Words {
+const K_16: Words = Words {
     w0: 0xe49b69c1,
     w1: 0xefbe4786,
     w2: 0x0fc19dc6,
@@ -39,7 +44,7 @@ pub const K_16: Words = Words {
     w15: 0x14292967,
 };
 
-pub const K_32: Words = Words {
+const K_32: Words = Words {
     w0: 0x27b70a85,
     w1: 0x2e1b2138,
     w2: 0x4d2c6dfc,
@@ -58,7 +63,7 @@ pub const K_32: Words = Words {
     w15: 0x106aa070,
 };
 
-pub const K_48: Words = Words {
+const K_48: Words = Words {
     w0: 0x19a4c116,
     w1: 0x1e376c08,
     w2: 0x2748774c,
@@ -76,3 +81,43 @@ pub const K_48: Words = Words {
     w14: 0xbef9a3f7,
     w15: 0xc67178f2,
 };
+
+// One of four numbers, by its place; the last for any place behind it.
+fn pick(i: usize, a: u32, b: u32, c: u32, d: u32) -> u32
+    ensures { λ r. ⌜ r ≡ getD (a ∷ b ∷ c ∷ d ∷ []) i d ⌝ }
+{
+    if i == 0 {
+        return a;
+    }
+    if i == 1 {
+        return b;
+    }
+    if i == 2 {
+        return c;
+    }
+    d
+}
+
+// The constants of quarter i of the rounds.
+pub fn constants(i: usize) -> Words
+    ensures { λ r. ⌜ listed r ≡ getD (K₀ ∷ K₁₆ ∷ K₃₂ ∷ K₄₈ ∷ []) i K₄₈ ⌝ }
+{
+    Words {
+        w0: pick(i, K_0.w0, K_16.w0, K_32.w0, K_48.w0),
+        w1: pick(i, K_0.w1, K_16.w1, K_32.w1, K_48.w1),
+        w2: pick(i, K_0.w2, K_16.w2, K_32.w2, K_48.w2),
+        w3: pick(i, K_0.w3, K_16.w3, K_32.w3, K_48.w3),
+        w4: pick(i, K_0.w4, K_16.w4, K_32.w4, K_48.w4),
+        w5: pick(i, K_0.w5, K_16.w5, K_32.w5, K_48.w5),
+        w6: pick(i, K_0.w6, K_16.w6, K_32.w6, K_48.w6),
+        w7: pick(i, K_0.w7, K_16.w7, K_32.w7, K_48.w7),
+        w8: pick(i, K_0.w8, K_16.w8, K_32.w8, K_48.w8),
+        w9: pick(i, K_0.w9, K_16.w9, K_32.w9, K_48.w9),
+        w10: pick(i, K_0.w10, K_16.w10, K_32.w10, K_48.w10),
+        w11: pick(i, K_0.w11, K_16.w11, K_32.w11, K_48.w11),
+        w12: pick(i, K_0.w12, K_16.w12, K_32.w12, K_48.w12),
+        w13: pick(i, K_0.w13, K_16.w13, K_32.w13, K_48.w13),
+        w14: pick(i, K_0.w14, K_16.w14, K_32.w14, K_48.w14),
+        w15: pick(i, K_0.w15, K_16.w15, K_32.w15, K_48.w15),
+    }
+}

@@ -1,13 +1,11 @@
 // The rounds, and one block whole (FIPS 180-4, section 6.2.2, steps 2 to 4).
 ghost use mathlib.Core.Path.{_≡_};
-ghost use Prim.Native.Nat.{_+_, _≤_};
+ghost use mathlib.Core.List.{_++_};
+ghost use Prim.Native.Nat.{_+_, _≤_, _<_};
 ghost use lib.ListN.{length, take, drop};
-ghost use Rattle.sha256_block.specs.Block.{roundOf, rounds, sumOf, compressOf};
+ghost use Rattle.sha256_block.specs.Block.{roundOf, extended, rounds, sumOf, compressOf};
 ghost use Rattle.sha256_block.specs.Listed.{listed};
-use crate::constants::K_0;
-use crate::constants::K_16;
-use crate::constants::K_32;
-use crate::constants::K_48;
+use crate::constants::constants;
 use crate::functions::add;
 use crate::functions::big_sigma_one;
 use crate::functions::big_sigma_zero;
@@ -72,6 +70,13 @@ fn sixteen_rounds(v0: Variables, k: Words, w: Words) -> Variables
     round(v15, k.w15, w.w15)
 }
 
+// The words of the quarter after quarter i of a block; behind the last no words are wanted.
+fn words_after(w: Words, i: usize) -> Words
+    ensures { λ r. ⌜ (i < 3 → extended 16 (listed w) ≡ listed w ++ listed r) ⌝ }
+{
+    if i < 3 { next_words(w) } else { w }
+}
+
 // The sums, word by word.
 fn sum(x: Variables, y: Variables) -> Variables
     ensures { λ r. ⌜ r ≡ sumOf x y ⌝ }
@@ -93,13 +98,11 @@ pub fn compress(h: Variables, s: &[u8], at: usize) -> Variables
     requires { ⌜ at + 64 ≤ length (now s) ⌝ }
     ensures { λ r. ⌜ r ≡ compressOf h (take 64 (drop at (now (s .entry)))) ⌝ }
 {
-    let w0 = block_words(s, at);
-    let v1 = sixteen_rounds(h, K_0, w0);
-    let w1 = next_words(w0);
-    let v2 = sixteen_rounds(v1, K_16, w1);
-    let w2 = next_words(w1);
-    let v3 = sixteen_rounds(v2, K_32, w2);
-    let w3 = next_words(w2);
-    let v4 = sixteen_rounds(v3, K_48, w3);
-    sum(h, v4)
+    let mut v = h;
+    let mut w = block_words(s, at);
+    for i in 0..4 {
+        v = sixteen_rounds(v, constants(i), w);
+        w = words_after(w, i);
+    }
+    sum(h, v)
 }

@@ -2,6 +2,7 @@
 mod checks;
 mod commands;
 mod journals;
+mod signers;
 mod timing;
 
 fn main() {
@@ -12,6 +13,7 @@ fn main() {
     checks::hashes();
     checks::checks();
     checks::leaf_keys();
+    signers::signers();
     commands::commands();
     journals::journals();
 }

@@ -1,6 +1,6 @@
 //! The library's values as the oracle's and back, field by field.
 use finaruvom::raw::{self, Party};
-use finaruvom::{Book, Cents, Payments, Refusal, Seconds, Status};
+use finaruvom::{Book, Cents, Payments, Refusal, Seconds, Status, SIGNATURE_SIZE};
 use std::sync::OnceLock;
 
 /// The oracle's status of a channel whose own status the oracle cannot hold. It is none of the
@@ -137,6 +137,27 @@ fn checked(refusal: u8) -> Result<(), Refusal> {
         0 => Ok(()),
         _ => Err(Refusal::try_from(refusal).expect("a refusal of the paper")),
     }
+}
+
+/// The bytes of the library's signer with the same values, each at its place.
+pub fn to_signer(till: &oracle::Till) -> Vec<u8> {
+    let next = till.next.to_le_bytes();
+    let nodes = till.nodes.as_flattened();
+    [&till.key[..], &till.seed, &next, nodes].concat()
+}
+
+/// The library's signature with the same values.
+pub fn to_signature(signed: &oracle::Signed) -> raw::Signature {
+    raw::Signature {
+        refusal: u32::from(signed.refusal),
+        bytes: signed.signature,
+    }
+}
+
+/// What the wrapper makes of the signature.
+pub fn to_signed(signed: &oracle::Signed) -> Result<[u8; SIGNATURE_SIZE], Refusal> {
+    checked(signed.refusal)?;
+    Ok(signed.signature)
 }
 
 /// The library's end of a run with the same values.

@@ -1,4 +1,7 @@
 //! Commands, openings and books that come up by design alone.
+
+pub mod signers;
+
 use crate::wallet::bits_apart;
 use oracle::{digest, Book, PLAIN_DEFAULT, TYPES};
 

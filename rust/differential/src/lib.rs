@@ -15,6 +15,7 @@ pub mod rng;
 mod run;
 mod spoil;
 mod tally;
+mod tills;
 pub mod wallet;
 
 pub use options::{Limit, Options, USAGE};

@@ -7,18 +7,22 @@ mod hashes;
 mod journals;
 mod runs;
 mod signatures;
+mod signers;
 mod strings;
 
 use crate::pair::Outcome;
 use crate::rng::Rng;
 use crate::tally::Tally;
 use crate::wallet::Wallet;
+use oracle::Till;
 use std::panic::{catch_unwind, AssertUnwindSafe};
 
 /// What the cases of a run share.
 #[derive(Default)]
 pub struct World {
     pub wallet: Wallet,
+    /// The signer of the key that library and oracle made.
+    pub made: Option<Till>,
     pub tally: Tally,
 }
 
@@ -40,6 +44,7 @@ pub const PARTS: &[Part] = &[
     part("books", books::case),
     part("faults", faults::case),
     part("signatures", signatures::case),
+    part("signers", signers::case),
     part("hashes", hashes::case),
     part("boundary", boundary::case),
     part("runs", runs::case),

@@ -1,5 +1,5 @@
 //! What was compared, and which refusals came up.
-use crate::kinds::KINDS;
+use crate::kinds::{signers, KINDS};
 use std::collections::BTreeMap;
 use std::fmt;
 
@@ -109,8 +109,9 @@ impl Tally {
             .filter(|place| !self.meetings.contains_key(place))
             .map(|(row, first, second)| format!("{row:02X} failing {first} and {second}"));
         let kinds = KINDS
-            .iter()
-            .filter(|kind| !self.compared.contains_key(*kind))
+            .into_iter()
+            .chain(signers::names())
+            .filter(|kind| !self.compared.contains_key(kind))
             .map(|kind| kind.to_string());
         let all = answers.chain(moves).chain(meetings).chain(kinds);
         all.collect()

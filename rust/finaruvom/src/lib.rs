@@ -23,11 +23,16 @@
 //!
 //! `examples/life.rs` goes through the life of three channels, with real signatures.
 //!
-//! The crate does without the standard library and allocates nothing. A program that has no C
-//! library brings `memcpy` and `memset` for the archive. For every call 96 KiB of stack are
-//! enough where the program is optimised, the book that it makes included.
+//! A till's half is the [`Signer`], which signs each message with a leaf of its own.
+//!
+//! The crate does without the standard library and allocates nothing but the memory of a signer. A
+//! program without the standard library brings an allocator, and one that has no C library `memcpy`
+//! and `memset` for the archive. Where the program is optimised, 256 KiB of stack are enough for
+//! making a key and for signing, and 96 KiB for every other call, the book that it makes included.
 #![no_std]
 #![deny(missing_docs)]
+
+extern crate alloc;
 
 #[cfg(not(all(
     target_arch = "x86_64",
@@ -47,6 +52,7 @@ mod reading;
 mod refusal;
 mod settings;
 mod signature;
+mod signer;
 mod sizes;
 mod stored;
 mod units;
@@ -61,8 +67,10 @@ pub use reading::{Reading, Status};
 pub use refusal::Refusal;
 pub use settings::Settings;
 pub use signature::{check, hash, Verdict};
+pub use signer::Signer;
 pub use sizes::{
-    BOOK_SIZE, CHANNELS, DESK_DELAY, DIGEST_SIZE, ID_SIZE, KEY_SIZE, LAYOUT, LONGEST_DELAY,
-    PLAIN_DELAY, SHORTEST_DELAY, SIGNATURE_SIZE,
+    BOOK_SIZE, CHANNELS, DESK_DELAY, DIGEST_SIZE, ID_SIZE, KEY_SIZE, LAYOUT, LEAVES, LONGEST_DELAY,
+    LONGEST_MESSAGE, NODES, NONCE_SIZE, PLAIN_DELAY, SEED_SIZE, SHORTEST_DELAY, SIGNATURE_SIZE,
+    SIGNER_SIZE,
 };
 pub use units::{Cents, Seconds};

@@ -4,7 +4,7 @@
 mod calls;
 mod layout;
 
-use crate::sizes::{CHANNELS, DIGEST_SIZE, ID_SIZE, KEY_SIZE};
+use crate::sizes::{CHANNELS, DIGEST_SIZE, ID_SIZE, KEY_SIZE, NODES, SEED_SIZE, SIGNATURE_SIZE};
 use crate::units::{Cents, Seconds};
 
 pub use calls::*;
@@ -160,4 +160,44 @@ pub struct Versions {
     pub patch: u32,
     /// The layout, as [`LAYOUT`](crate::LAYOUT).
     pub layout: u32,
+}
+
+/// A node of a signer's tree.
+#[repr(C)]
+#[derive(Clone, Copy, Debug, PartialEq, Eq, Hash)]
+pub struct Node {
+    /// Its digest.
+    pub value: [u8; DIGEST_SIZE],
+}
+
+/// A till's key as it is stored. Any values may stand in it.
+///
+/// A copy signs with the same leaves, so there is no `clone`. This does not compile:
+///
+/// ```compile_fail,E0599
+/// fn second(signer: &finaruvom::raw::Signer) -> finaruvom::raw::Signer {
+///     finaruvom::raw::Signer::clone(signer)
+/// }
+/// ```
+#[repr(C)]
+pub struct Signer {
+    /// The public key: type, one-time type, identifier and root.
+    pub key: [u8; KEY_SIZE],
+    /// The private key.
+    pub seed: [u8; SEED_SIZE],
+    /// The leaf that signs next; from [`LEAVES`](crate::LEAVES) on none does.
+    pub next: u32,
+    /// Node r at place r: the root at 1, the leaves from [`LEAVES`](crate::LEAVES) on, zeros at 0.
+    pub nodes: [Node; NODES],
+}
+
+/// What a signing answers.
+#[must_use = "a dropped signature has used its leaf"]
+#[repr(C)]
+#[derive(Clone, Copy, Debug, PartialEq, Eq, Hash)]
+pub struct Signature {
+    /// The refusal's number, or 0.
+    pub refusal: u32,
+    /// The signature; zeros where it was refused.
+    pub bytes: [u8; SIGNATURE_SIZE],
 }

@@ -15,7 +15,7 @@ numbered! {
     /// ```
     Refusal {
         Unknown = 1: "no first byte, or it is not 01 to 0A",
-        Length = 2: "the length of the command, id or message does not fit",
+        Length = 2: "the length of the command, id, seed, nonce or message does not fit",
         Time = 3: "the time is before the clock or above 2^63 - 1",
         Channel = 4: "the channel is not below 64",
         Status = 5: "the channel's status does not allow it",
@@ -27,6 +27,7 @@ numbered! {
         Merchant = 11: "the merchant's signature is not good",
         Customer = 12: "the customer's signature is not good",
         SettingsDelay = 14: "the default delay of the settings is not 3,600 to 2,592,000",
+        NoLeaf = 15: "the signer's leaves are all used",
         Unsound = 99: "the book is of no opening or another layout, or a value is out of range",
     }
 }

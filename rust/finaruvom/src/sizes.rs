@@ -14,6 +14,18 @@ pub const KEY_SIZE: usize = 56;
 pub const SIGNATURE_SIZE: usize = 1_452;
 /// Bytes of a SHA-256 digest, of a lock and of its secret.
 pub const DIGEST_SIZE: usize = 32;
+/// Bytes of a signer's seed.
+pub const SEED_SIZE: usize = 32;
+/// Bytes of the nonce of a signature, the RFC's C.
+pub const NONCE_SIZE: usize = 32;
+/// Bytes of the longest message that is signed or checked.
+pub const LONGEST_MESSAGE: usize = 1_024;
+/// Leaves of a signer, each of which signs once.
+pub const LEAVES: u32 = 1_024;
+/// Places for the nodes of a signer's tree.
+pub const NODES: usize = 2_048;
+/// Bytes of a stored signer.
+pub const SIGNER_SIZE: usize = 65_628;
 /// The shortest delay in seconds.
 pub const SHORTEST_DELAY: u32 = 3_600;
 /// The longest delay in seconds.

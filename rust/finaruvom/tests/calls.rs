@@ -188,6 +188,7 @@ fn refusals_by_number() {
         (Refusal::Merchant, 11),
         (Refusal::Customer, 12),
         (Refusal::SettingsDelay, 14),
+        (Refusal::NoLeaf, 15),
         (Refusal::Unsound, 99),
     ];
     for (refusal, number) in numbers {

@@ -2,8 +2,8 @@
 use finaruvom::raw;
 use finaruvom::{
     version, Cause, Refusal, Settings, Status, UnknownNumber, Versions, BOOK_SIZE, CHANNELS,
-    DESK_DELAY, DIGEST_SIZE, ID_SIZE, KEY_SIZE, LAYOUT, LONGEST_DELAY, PLAIN_DELAY, SHORTEST_DELAY,
-    SIGNATURE_SIZE,
+    DESK_DELAY, DIGEST_SIZE, ID_SIZE, KEY_SIZE, LAYOUT, LEAVES, LONGEST_DELAY, LONGEST_MESSAGE,
+    NODES, NONCE_SIZE, PLAIN_DELAY, SEED_SIZE, SHORTEST_DELAY, SIGNATURE_SIZE, SIGNER_SIZE,
 };
 use std::collections::BTreeMap;
 use std::fmt::Debug;
@@ -64,7 +64,7 @@ fn definitions() {
     let (stacks, mut defined): (Numbers, Numbers) = defined()
         .into_iter()
         .partition(|(name, _)| name.starts_with("STACK_"));
-    assert_eq!(stacks.len(), 7);
+    assert_eq!(stacks.len(), 9);
     let [major, minor, patch] = packaged();
     let crates = [
         ("VERSION_MAJOR", major as usize),
@@ -76,6 +76,12 @@ fn definitions() {
         ("KEY_SIZE", KEY_SIZE),
         ("SIGNATURE_SIZE", SIGNATURE_SIZE),
         ("DIGEST_SIZE", DIGEST_SIZE),
+        ("SEED_SIZE", SEED_SIZE),
+        ("NONCE_SIZE", NONCE_SIZE),
+        ("LONGEST_MESSAGE", LONGEST_MESSAGE),
+        ("LEAVES", LEAVES as usize),
+        ("NODES", NODES),
+        ("SIGNER_SIZE", SIGNER_SIZE),
         ("SHORTEST_DELAY", SHORTEST_DELAY as usize),
         ("LONGEST_DELAY", LONGEST_DELAY as usize),
         ("PLAIN_DELAY", PLAIN_DELAY as usize),
@@ -91,6 +97,7 @@ fn definitions() {
         ("FOUND_SIZE", size_of::<raw::Found>()),
         ("RAN_SIZE", size_of::<raw::Ran>()),
         ("VERSIONS_SIZE", size_of::<raw::Versions>()),
+        ("NODE_SIZE", size_of::<raw::Node>()),
     ];
     for (name, value) in crates {
         assert_eq!(defined.remove(name), Some(value), "{name}");
@@ -102,7 +109,7 @@ fn definitions() {
 fn refusals() {
     let mut listed = listed("refusal");
     assert_eq!(listed.remove("Accepted"), Some(0));
-    assert_eq!(listed.len(), 14);
+    assert_eq!(listed.len(), 15);
     assert_eq!(variants(Refusal::number), listed);
     assert_eq!(Refusal::try_from(13), Err(UnknownNumber(13)));
     assert_eq!(UnknownNumber(13).to_string(), "unknown number 13");

@@ -1,4 +1,5 @@
-//! Every call of the crate on a thread with the stack that its documentation names.
+//! Every call but a signer's on a thread with the stack that the documentation names; `signer.rs`
+//! has those.
 use finaruvom::command::{SetClock, Settle};
 use finaruvom::{check, hash, Book, Line, Refusal, Seconds, Settings};
 use std::thread::Builder;

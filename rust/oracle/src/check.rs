@@ -7,6 +7,8 @@ use crate::tree;
 pub const TYPES: [u8; 8] = [0, 0, 0, 6, 0, 0, 0, 4];
 /// Bytes of a signature.
 pub const SIGNATURE: usize = 1_452;
+/// Bytes of the longest message.
+pub const LONGEST_MESSAGE: usize = 1_024;
 /// Levels of the tree.
 pub const HEIGHT: u32 = 10;
 
@@ -28,7 +30,7 @@ pub fn check(key: &[u8], message: &[u8], signature: &[u8]) -> Verdict {
         good: false,
         steps: 0,
     };
-    if message.len() > 1_024 {
+    if message.len() > LONGEST_MESSAGE {
         return no(2);
     }
     match (Key::parse(key), Signature::parse(signature)) {

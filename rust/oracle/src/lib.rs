@@ -1,5 +1,5 @@
-//! Document 01, and document 02 No. 1 and 2 where these say otherwise, in plain Rust, written from
-//! the papers alone, to compare the library with.
+//! Document 01, document 02 No. 1 and 2 where these say otherwise, and its No. 4, in plain Rust,
+//! written from the papers alone, to compare the library with.
 
 mod book;
 mod check;
@@ -11,6 +11,7 @@ mod reading;
 mod rules;
 mod sha256;
 mod signer;
+mod till;
 mod tree;
 
 #[cfg(test)]
@@ -28,3 +29,4 @@ pub use one_time::Place;
 pub use reading::{due, read, Reading};
 pub use sha256::{digest, hash, Digest};
 pub use signer::Signer;
+pub use till::{Signed, Till, LEAVES};

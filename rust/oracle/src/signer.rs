@@ -6,9 +6,9 @@ use crate::tree;
 
 /// A private key of LMS type 6 over LM-OTS type 4.
 pub struct Signer {
-    seed: Digest,
+    pub(crate) seed: Digest,
     identifier: [u8; 16],
-    nodes: Vec<Digest>,
+    pub(crate) nodes: Vec<Digest>,
 }
 
 impl Signer {
@@ -43,24 +43,35 @@ impl Signer {
             identifier: &self.identifier,
             leaf,
         };
-        let mut signature = Vec::with_capacity(SIGNATURE);
-        signature.extend(leaf.to_be_bytes());
-        signature.extend(&TYPES[4..]);
-        signature.extend(c);
-        for (chain, digit) in Place::digits(&place.hash(c, message))
-            .into_iter()
-            .enumerate()
-        {
-            let string = private(&self.seed, &place, chain);
-            signature.extend(place.walk(chain, 0, digit, &string));
-        }
-        signature.extend(&TYPES[..4]);
-        for level in 0..HEIGHT {
-            let node = ((1 << HEIGHT) + leaf) >> level;
-            signature.extend(self.nodes[(node ^ 1) as usize]);
-        }
-        signature.try_into().unwrap()
+        signature(&self.seed, &place, &self.nodes, c, message)
     }
+}
+
+/// The signature of a message at a place, with its path out of these nodes.
+pub(crate) fn signature(
+    seed: &Digest,
+    place: &Place,
+    nodes: &[Digest],
+    c: &Digest,
+    message: &[u8],
+) -> [u8; SIGNATURE] {
+    let mut signature = Vec::with_capacity(SIGNATURE);
+    signature.extend(place.leaf.to_be_bytes());
+    signature.extend(&TYPES[4..]);
+    signature.extend(c);
+    for (chain, digit) in Place::digits(&place.hash(c, message))
+        .into_iter()
+        .enumerate()
+    {
+        let string = private(seed, place, chain);
+        signature.extend(place.walk(chain, 0, digit, &string));
+    }
+    signature.extend(&TYPES[..4]);
+    for level in 0..HEIGHT {
+        let node = ((1 << HEIGHT) + place.leaf) >> level;
+        signature.extend(nodes[(node ^ 1) as usize]);
+    }
+    signature.try_into().unwrap()
 }
 
 /// The private string of a chain.

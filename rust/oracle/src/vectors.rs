@@ -4,3 +4,4 @@ mod lms;
 mod sha256;
 mod stored;
 mod text;
+mod till;

@@ -1,6 +1,7 @@
 //! Random bytes into every exported function, on memory between guard bytes.
 
 mod journal;
+mod signer;
 
 use super::strings::string;
 use super::World;
@@ -21,6 +22,8 @@ const CALLS: &[Call] = &[
     apply,
     journal::read,
     journal::run,
+    signer::make_key,
+    signer::sign,
 ];
 
 /// Calls on one book.

@@ -8,10 +8,10 @@ use finaruvom::raw::finaruvom_check;
 
 /// A key, a message and a signature.
 #[derive(Clone)]
-struct Signed {
-    key: Vec<u8>,
-    message: Vec<u8>,
-    signature: Vec<u8>,
+pub struct Signed {
+    pub key: Vec<u8>,
+    pub message: Vec<u8>,
+    pub signature: Vec<u8>,
 }
 
 /// Good signatures and what becomes of them.
@@ -78,7 +78,8 @@ fn damaged(rng: &mut Rng, good: &Signed) -> Signed {
     bad
 }
 
-fn compare(signed: &Signed, tally: &mut Tally) -> Outcome {
+/// Checks a signature in both, and gives the verdict.
+pub fn compare(signed: &Signed, tally: &mut Tally) -> Result<bool, String> {
     let Signed {
         key,
         message,
@@ -99,7 +100,8 @@ fn compare(signed: &Signed, tally: &mut Tally) -> Outcome {
             hex(message),
             hex(signature)
         )
-    })
+    })?;
+    Ok(expected.1)
 }
 
 /// The library's answer, and verdict and steps, which it must write whatever stood there.

@@ -1,5 +1,5 @@
 //! The functions of the archive.
-use super::{Answer, Book, Found, Line, Ran, Reading, Settings, Versions};
+use super::{Answer, Book, Found, Line, Ran, Reading, Settings, Signature, Signer, Versions};
 
 extern "C" {
     /// The library's version and layout.
@@ -123,4 +123,34 @@ extern "C" {
         lines: *mut Line,
         lines_n: usize,
     ) -> Ran;
+
+    /// Makes a key in the lent signer, whatever stands there, and answers 0; where a length is
+    /// wrong 2 and zeros, but 1,024 as the next leaf.
+    ///
+    /// # Safety
+    ///
+    /// The signer is aligned, can be written and overlaps nothing else; `seed_n` and `id_n` bytes
+    /// can be read.
+    #[must_use]
+    pub fn finaruvom_make_key(
+        signer: *mut Signer,
+        seed: *const u8,
+        seed_n: usize,
+        id: *const u8,
+        id_n: usize,
+    ) -> u32;
+
+    /// Signs a message with the next leaf and moves to the leaf behind, or refuses.
+    ///
+    /// # Safety
+    ///
+    /// The signer is aligned, can be written and overlaps nothing else; `nonce_n` and `message_n`
+    /// bytes can be read.
+    pub fn finaruvom_sign(
+        signer: *mut Signer,
+        nonce: *const u8,
+        nonce_n: usize,
+        message: *const u8,
+        message_n: usize,
+    ) -> Signature;
 }

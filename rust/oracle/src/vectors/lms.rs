@@ -2,11 +2,19 @@
 use super::text::{array, bytes, field, lines};
 use crate::check::{check, Verdict};
 use crate::one_time::Place;
-use crate::signer::{nodes, Signer};
+use crate::signer::nodes;
+use crate::till::Till;
 use crate::tree;
+use std::sync::LazyLock;
 
 const OWN: &str = include_str!("../../vectors/lms_h10_w8.txt");
 const RFC: &str = include_str!("../../vectors/lms_rfc8554.txt");
+
+/// The signer of the seed and the identifier that the own vectors and those of a till share.
+pub static MADE: LazyLock<(u8, Till)> = LazyLock::new(|| {
+    let lines = lines(OWN);
+    Till::make(&bytes(field(&lines, "seed")), &bytes(field(&lines, "I")))
+});
 
 /// The part of a word behind its name and the equals sign.
 fn value<'a>(words: &[&'a str], name: &str) -> &'a str {
@@ -36,16 +44,15 @@ fn verdicts() {
 #[test]
 fn key_and_signatures() {
     let lines = lines(OWN);
-    let signer = Signer::new(array(field(&lines, "seed")), array(field(&lines, "I")));
-    assert_eq!(signer.key(), array(field(&lines, "key")));
+    let (_, mut till) = MADE.clone();
+    assert_eq!(till.key, array(field(&lines, "key")));
     let good = lines.iter().filter(|words| words.contains(&"verdict=yes"));
     assert_eq!(good.clone().count(), 4);
     for words in good {
-        let signature = bytes(value(words, "signature"));
-        let leaf = u32::from_be_bytes(signature[..4].try_into().unwrap());
-        let c = signature[8..40].try_into().unwrap();
-        let made = signer.sign(leaf, c, &bytes(value(words, "message")));
-        assert!(made[..] == signature, "{}", words[0]);
+        let expected = bytes(value(words, "signature"));
+        till.next = u32::from_be_bytes(expected[..4].try_into().unwrap());
+        let signed = till.sign(&expected[8..40], &bytes(value(words, "message")));
+        assert!(signed.signature[..] == expected, "{}", words[0]);
     }
 }
 
