@@ -3,15 +3,17 @@ ghost use mathlib.Core.Path.{_≡_};
 ghost use mathlib.Core.List.{List};
 ghost use Prim.Native.Nat.{ℕ, _+_, _-_, _^_, _≤_, _<_};
 ghost use lib.ListN.{length, take};
+ghost use Rattle.sha256.specs.Digest.{digestOf};
 ghost use Rattle.lms.specs.Layout.{string};
 ghost use Rattle.lms.specs.OneTime.{messageHash, digits, stepCount, walk, chainEnd, endOf};
 ghost use Rattle.lms.specs.Walked.{chainStart, Fed, walkedOf};
 use crate::prefix::begun;
 use sha256::Sha256;
-use sha256::block_digest;
-use sha256::pair_block;
+use sha256::digest;
+use sha256::hash_after;
+use sha256::value_at;
+use sha256_block::Variables;
 use wire::copy_into;
-use wire::digest_at;
 use wire::u32_bytes;
 use wire::wide;
 
@@ -58,16 +60,16 @@ pub fn step_count(hash: [u8; 32]) -> u32
 }
 
 // x after the steps of a chain from one number up to another. The first 22 bytes of start are the identifier, the leaf and the chain's number.
-pub fn chain(start: [u8; 23], from: u8, to: u8, x: [u8; 32]) -> [u8; 32]
-    ensures { λ r. ⌜ r ≡ walk (take 22 start) (to - from) from x ⌝ }
+pub fn chain(start: [u8; 23], from: u8, to: u8, x: Variables) -> Variables
+    ensures { λ r. ⌜ digestOf r ≡ walk (take 22 start) (to - from) from (digestOf x) ⌝ }
 {
-    let mut block = pair_block(&start, &x);
+    let mut prefix = start;
+    let mut value = x;
     for j in from..to {
-        block[22] = j;
-        let hash = block_digest(&block);
-        copy_into(&hash, &mut block, 23);
+        prefix[22] = j;
+        value = hash_after(prefix, value);
     }
-    digest_at(&block, 23)
+    value
 }
 
 // What each chain's hashes begin with, before the chain's number and the step's.
@@ -88,7 +90,8 @@ fn chain_end(start: [u8; 23], i: usize, digit: u8, signature: &[u8]) -> [u8; 32]
 {
     let mut numbered = start;
     numbered[21] = i as u8;
-    chain(numbered, digit, 255, digest_at(signature, 40 + 32 * i))
+    let string = value_at(signature, 40 + 32 * i);
+    digest(chain(numbered, digit, 255, string))
 }
 
 // One chain, where start is what `chain_start` gives of I and q: a state of I, q, 8080 and the first i ends becomes that of the first i + 1.

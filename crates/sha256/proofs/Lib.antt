@@ -3,4 +3,5 @@ pub mod Laws
 pub mod Feeding
 pub mod Ending
 pub mod Single
+pub mod Behind
 pub mod Examples

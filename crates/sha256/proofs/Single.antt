@@ -75,7 +75,7 @@ written-padding m y n l h e =
     ∙ append-assoc m (marked z) (six ++ v ∷ w ∷ [])
     ∙ ended m (marked z) (six ++ v ∷ w ∷ []) n (sym l) (ap marked zero) (two-bytes n h)
 
-single-length : (m : List ℕ) → length m ≤ 55 → length (padded m) ≡ 64
+pub single-length : (m : List ℕ) → length m ≤ 55 → length (padded m) ≡ 64
 single-length m h = omega (arith, padded-length m)
 
 -- The digest of the one block.

@@ -5,11 +5,13 @@ ghost use Rattle.sha256.specs.Answer.{hashAnswer};
 mod bytes;
 mod pair;
 mod state;
+mod step;
 
-pub use pair::block_digest;
+pub use bytes::digest;
 pub use pair::hash_pair;
-pub use pair::pair_block;
 pub use state::Sha256;
+pub use step::hash_after;
+pub use step::value_at;
 
 // What `hash` answers: the refusal, or 0, and the digest.
 pub struct Hashed {

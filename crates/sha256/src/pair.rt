@@ -1,19 +1,18 @@
 // A message of two parts that fits in one block with its padding.
 ghost use mathlib.Core.Path.{_≡_};
-ghost use mathlib.Core.List.{List, _++_};
-ghost use Prim.Native.Nat.{ℕ, _+_, _≤_};
+ghost use mathlib.Core.List.{_++_};
+ghost use Prim.Native.Nat.{_+_, _≤_};
 ghost use lib.ListN.{length};
 ghost use Rattle.sha256.specs.Digest.{sha256};
-ghost use Rattle.sha256.specs.Padding.{padded};
 use crate::bytes::digest;
 use crate::bytes::written;
 use crate::state::initial;
 use sha256_block::compress;
 
-// The one block of a and then b, 55 bytes at most in all. Only the product's own parts call it.
-pub fn pair_block(a: &[u8], b: &[u8]) -> [u8; 64]
+// The digest of a and then b, 55 bytes at most in all: one block. Only the product's own parts call it.
+pub fn hash_pair(a: &[u8], b: &[u8]) -> [u8; 32]
     requires { ⌜ length (now a) + length (now b) ≤ 55 ⌝ }
-    ensures { λ r. ⌜ r ≡ padded (now (a .entry) ++ now (b .entry)) ⌝ }
+    ensures { λ r. ⌜ r ≡ sha256 (now (a .entry) ++ now (b .entry)) ⌝ }
 {
     let joint = a.len();
     let n = joint + b.len();
@@ -22,22 +21,5 @@ pub fn pair_block(a: &[u8], b: &[u8]) -> [u8; 64]
     block[n] = 0x80;
     block[62] = (n / 32) as u8;
     block[63] = (8 * n % 256) as u8;
-    block
-}
-
-// The digest of the message of at most 55 bytes whose one block this is. Only the product's own parts call it.
-pub fn block_digest(block: &[u8]) -> [u8; 32]
-    requires { ⌜ length (now block) ≡ 64 ⌝ }
-    ensures { λ r. ⌜ ((m : List ℕ) → length m ≤ 55 → now (block .entry) ≡ padded m → r ≡ sha256 m) ⌝ }
-{
-    digest(compress(initial(), block, 0))
-}
-
-// The digest of a and then b, 55 bytes at most in all. Only the product's own parts call it.
-pub fn hash_pair(a: &[u8], b: &[u8]) -> [u8; 32]
-    requires { ⌜ length (now a) + length (now b) ≤ 55 ⌝ }
-    ensures { λ r. ⌜ r ≡ sha256 (now (a .entry) ++ now (b .entry)) ⌝ }
-{
-    let block = pair_block(a, b);
-    block_digest(&block)
+    digest(compress(initial(), &block, 0))
 }

@@ -48,6 +48,10 @@ rounds (k ∷ ks) (w ∷ ws) v = rounds ks ws (roundOf v k w)
 unfoldable pub sumOf : Variables → Variables → Variables
 sumOf x y = record { a = x .a ⊞ y .a; b = x .b ⊞ y .b; c = x .c ⊞ y .c; d = x .d ⊞ y .d; e = x .e ⊞ y .e; f = x .f ⊞ y .f; g = x .g ⊞ y .g; h = x .h ⊞ y .h }
 
--- Steps 1 to 4: the hash value after h and the block b.
+-- Steps 1 to 4: the hash value after h and the block of the words w.
+unfoldable pub compressWords : Variables → List ℕ → Variables
+compressWords h w = sumOf h (rounds K (schedule w) h)
+
+-- The same of the block b.
 unfoldable pub compressOf : Variables → List ℕ → Variables
-compressOf h b = sumOf h (rounds K (schedule (words b)) h)
+compressOf h b = compressWords h (words b)

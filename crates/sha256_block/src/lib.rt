@@ -6,3 +6,5 @@ mod schedule;
 
 pub use rounds::Variables;
 pub use rounds::compress;
+pub use rounds::compress_words;
+pub use schedule::Words;

@@ -3,7 +3,7 @@ ghost use mathlib.Core.Path.{_≡_};
 ghost use mathlib.Core.List.{_++_};
 ghost use Prim.Native.Nat.{_+_, _≤_, _<_};
 ghost use lib.ListN.{length, take, drop};
-ghost use Rattle.sha256_block.specs.Block.{roundOf, extended, rounds, sumOf, compressOf};
+ghost use Rattle.sha256_block.specs.Block.{roundOf, extended, rounds, sumOf, compressWords, compressOf};
 ghost use Rattle.sha256_block.specs.Listed.{listed};
 use crate::constants::constants;
 use crate::functions::add;
@@ -93,16 +93,23 @@ fn sum(x: Variables, y: Variables) -> Variables
     }
 }
 
-// The hash value h after the block of s that starts at byte at. Only the product's own parts call it.
-pub fn compress(h: Variables, s: &[u8], at: usize) -> Variables
-    requires { ⌜ at + 64 ≤ length (now s) ⌝ }
-    ensures { λ r. ⌜ r ≡ compressOf h (take 64 (drop at (now (s .entry)))) ⌝ }
+// The hash value h after a block of these words. Only the product's own parts call it.
+pub fn compress_words(h: Variables, block: Words) -> Variables
+    ensures { λ r. ⌜ r ≡ compressWords h (listed block) ⌝ }
 {
     let mut v = h;
-    let mut w = block_words(s, at);
+    let mut w = block;
     for i in 0..4 {
         v = sixteen_rounds(v, constants(i), w);
         w = words_after(w, i);
     }
     sum(h, v)
+}
+
+// The hash value h after the block of s that starts at byte at. Only the product's own parts call it.
+pub fn compress(h: Variables, s: &[u8], at: usize) -> Variables
+    requires { ⌜ at + 64 ≤ length (now s) ⌝ }
+    ensures { λ r. ⌜ r ≡ compressOf h (take 64 (drop at (now (s .entry)))) ⌝ }
+{
+    compress_words(h, block_words(s, at))
 }

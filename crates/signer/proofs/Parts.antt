@@ -7,10 +7,11 @@ use mathlib.Core.Bool.{Bool, true, false}
 use borrow.Author.Tests.{ltb-true, ltb-false}
 use lib.Dec.{ltb}
 use mathlib.Core.List.{List, [], _∷_, _++_, append-nil}
-use lib.ListN.{length, take, drop, getD, length-append, length-drop, replicate, length-replicate, replicate-append-replicate, List·getD-append}
-use lib.Seq.{take-at, drop-at, take-all, take-append-le, take-length, paste, drop-append-le, drop-append-add, getD-append-add}
+use lib.ListN.{length, take, drop, length-append, length-drop, replicate, length-replicate, replicate-append-replicate}
+use lib.Seq.{take-at, drop-at, take-all, take-append-le, take-length, paste, drop-append-le, drop-append-add}
 use Rattle.wire.specs.Numbers.{bytes, u32At}
 use Rattle.wire.specs.Parts.{part}
+use Rattle.wire.proofs.Laws.{four, u32-behind}
 use Rattle.lms.specs.Rows.{row}
 use Rattle.lms.proofs.Laws.{row-more}
 
@@ -33,9 +34,6 @@ unfolding bytes
 bytes-length zero x = refl
 bytes-length (suc n) x = ap suc (bytes-length n x)
 
-four : (a b c d a′ b′ c′ d′ : ℕ) → a ≡ a′ → b ≡ b′ → c ≡ c′ → d ≡ d′ → a * 2 ^ 24 + b * 2 ^ 16 + c * 2 ^ 8 + d ≡ a′ * 2 ^ 24 + b′ * 2 ^ 16 + c′ * 2 ^ 8 + d′
-four a b c d a′ b′ c′ d′ e₁ e₂ e₃ e₄ = cc
-
 -- A number below 2 ^ 32 is the sum of its four bytes.
 summed : (x y z w : ℕ) → x < 2 ^ 32 → y ≡ x / 2 ^ 8 → z ≡ y / 2 ^ 8 → w ≡ z / 2 ^ 8 → w % 256 * 2 ^ 24 + z % 256 * 2 ^ 16 + y % 256 * 2 ^ 8 + x % 256 ≡ x
 summed x y z w h p q r =
@@ -54,19 +52,9 @@ whole x h =
     four _ _ _ _ _ _ _ _ (ap (λ (k : ℕ). k % 256) (sym z)) (ap (λ (k : ℕ). k % 256) (sym y)) refl (sym o) ∙ summed x (x / 2 ^ 8) _ _ h refl refl refl
 
 pub u32-last : (a : List ℕ) (x at : ℕ) → length a ≡ at → x < 2 ^ 32 → u32At (a ++ bytes 4 x) at ≡ x
-unfolding u32At
-u32-last a x at la h = four _ _ _ _ _ _ _ _ (ap (λ (k : ℕ). getD (a ++ bytes 4 x) k 0) (sym zeroth) ∙ place 0) (place 1) (place 2) (place 3) ∙ whole x h where
-  zeroth : at + 0 ≡ at
-  zeroth = omega arith
-
-  place : (k : ℕ) → getD (a ++ bytes 4 x) (at + k) 0 ≡ getD (bytes 4 x) k 0
-  place k = ap (λ (j : ℕ). getD (a ++ bytes 4 x) (j + k) 0) (sym la) ∙ getD-append-add a (bytes 4 x) k 0
-
-pub u32-front : (a b : List ℕ) (at : ℕ) → at + 4 ≤ length a → u32At (a ++ b) at ≡ u32At a at
-unfolding u32At
-u32-front a b at h =
-    four _ _ _ _ _ _ _ _ (List·getD-append a b 0 at (omega arith)) (List·getD-append a b 0 (at + 1) (omega arith)) (List·getD-append a b 0 (at + 2) (omega arith))
-    (List·getD-append a b 0 (at + 3) (omega arith))
+u32-last a x at la h =
+    let z : at + 0 ≡ at = omega arith in
+    ap (u32At (a ++ bytes 4 x)) (sym z) ∙ u32-behind a (bytes 4 x) at 0 la ∙ whole x h
 
 -- A string that is written into zeros, behind what stands there.
 pub put : (p b : List ℕ) (at n m : ℕ) → length p ≡ at → length b ≡ n → paste (p ++ replicate (n + m) 0) at b (length b) ≡ p ++ b ++ replicate m 0

@@ -10,6 +10,7 @@ use lib.Dec.{leb, eqb, ltb}
 use lib.ListN.{length, getD, length-append}
 use Rattle.wire.specs.Numbers.{bytes, u32At}
 use Rattle.wire.specs.Parts.{part, same}
+use Rattle.wire.proofs.Laws.{u32-front}
 use Rattle.sha256.specs.Digest.{sha256}
 use Rattle.lms.specs.declared.Checked.{Checked}
 use Rattle.lms.specs.Layout.{identifier, root, leaf, oneTimeType, nonce, string, treeType, path, keyType, keyOneTimeType, wellFormed, rightTypes}
@@ -21,7 +22,7 @@ use Rattle.lms.specs.Rows.{row}
 use Rattle.signer.specs.Strings.{stringOf, leafPublic}
 use Rattle.signer.specs.Nodes.{T, nodesOf, keyOf}
 use Rattle.signer.specs.Signature.{siblingOf, valueAt, pathOf, signedString, signatureOf}
-use Rattle.signer.proofs.Parts.{part-last, part-front, part-behind, bytes-length, u32-last, u32-front, row-length, row-part}
+use Rattle.signer.proofs.Parts.{part-last, part-front, part-behind, bytes-length, u32-last, row-length, row-part}
 use Rattle.signer.proofs.Chains.{string-length, Small, small-digits, key-full}
 use Rattle.signer.proofs.Tree.{below-top, sibling-low, sibling-high, T-length, T-eq, leaf-alone, climb-root, kept-at, kept-length}
 

@@ -1,13 +1,15 @@
 // Signing.
 ghost use mathlib.Core.Path.{_≡_};
 ghost use mathlib.Core.List.{List, _++_};
-ghost use Prim.Native.Nat.{ℕ, _<_, _≤_};
+ghost use Prim.Native.Nat.{ℕ, _+_, _<_, _≤_};
+ghost use mathlib.Core.Bool.{cond};
+ghost use lib.Dec.{eqb};
 ghost use lib.ListN.{length, replicate};
 ghost use Rattle.wire.specs.Numbers.{bytes};
 ghost use Rattle.lms.specs.Layout.{identifier};
 ghost use Rattle.lms.specs.Rows.{row};
 ghost use Rattle.signer.specs.Signature.{siblingOf, pathOf, signedString, signatureOf};
-ghost use Rattle.signer.specs.Answers.{refused, signOf};
+ghost use Rattle.signer.specs.Answers.{noSignature, signOf};
 use crate::state::Node;
 use crate::state::Signature;
 use crate::state::SignedMessage;
@@ -104,15 +106,39 @@ fn signature_by(signer: Signer, nonce: [u8; 32], message: &[u8]) -> [u8; 1452]
     with_path(signature, leaf, nodes)
 }
 
-// A signing that is refused: zeros, and the signer as it is.
-fn kept(refusal: u32, signer: Signer) -> SignedMessage
-    ensures { λ r. ⌜ r ≡ refused refusal signer ⌝ }
+// The answer of a signing that is refused: zeros.
+fn refused(refusal: u32) -> Signature
+    ensures { λ r. ⌜ r ≡ noSignature refusal ⌝ }
 {
-    let signature = Signature {
+    Signature {
         refusal,
         bytes: [0u8; 1452],
-    };
-    SignedMessage { signer, signature }
+    }
+}
+
+// What a signing answers.
+fn answer(signer: Signer, nonce: &[u8], message: &[u8]) -> Signature
+    ensures { λ r. ⌜ r ≡ signOf signer (now (nonce .entry)) (now (message .entry)) .signature ⌝ }
+{
+    if nonce.len() != 32 {
+        return refused(2);
+    }
+    if 1024 < message.len() {
+        return refused(2);
+    }
+    if 1024 <= signer.next {
+        return refused(15);
+    }
+    let bytes = signature_by(signer, digest_at(nonce, 0), message);
+    Signature { refusal: 0, bytes }
+}
+
+// The next leaf after an answer with this refusal.
+fn next_after(refusal: u32, next: u32) -> u32
+    requires { ⌜ (refusal ≡ 0 → next < 1024) ⌝ }
+    ensures { λ r. ⌜ r ≡ cond (eqb refusal 0) (next + 1) next ⌝ }
+{
+    if refusal == 0 { next + 1 } else { next }
 }
 
 // Signs a message of at most 1,024 bytes with a C of 32 and the signer's next leaf, and moves to the next. Another length is refused with 2, and then a
@@ -120,22 +146,11 @@ fn kept(refusal: u32, signer: Signer) -> SignedMessage
 pub fn signed(signer: Signer, nonce: &[u8], message: &[u8]) -> SignedMessage
     ensures { λ r. ⌜ r ≡ signOf signer (now (nonce .entry)) (now (message .entry)) ⌝ }
 {
-    if nonce.len() != 32 {
-        return kept(2, signer);
-    }
-    if 1024 < message.len() {
-        return kept(2, signer);
-    }
-    let leaf = signer.next;
-    if 1024 <= leaf {
-        return kept(15, signer);
-    }
-    let bytes = signature_by(signer, digest_at(nonce, 0), message);
-    let signature = Signature { refusal: 0, bytes };
-    let mut moved = signer;
-    moved.next = leaf + 1;
+    let signature = answer(signer, nonce, message);
+    let mut left = signer;
+    left.next = next_after(signature.refusal, signer.next);
     SignedMessage {
-        signer: moved,
+        signer: left,
         signature,
     }
 }

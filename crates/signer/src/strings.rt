@@ -8,7 +8,9 @@ ghost use Rattle.signer.specs.Strings.{stringOf, leafPublic};
 use lms::begun;
 use lms::chain;
 use lms::chain_start;
+use sha256::digest;
 use sha256::hash_pair;
+use sha256::value_at;
 
 // The string of chain i after the given steps, where start is what `chain_start` gives.
 pub fn chain_string(start: [u8; 23], i: usize, steps: u8, seed: [u8; 32]) -> [u8; 32]
@@ -19,7 +21,8 @@ pub fn chain_string(start: [u8; 23], i: usize, steps: u8, seed: [u8; 32]) -> [u8
     numbered[21] = i as u8;
     numbered[22] = 0xff;
     let secret = hash_pair(&numbered, &seed);
-    chain(numbered, 0, steps, secret)
+    let beginning = value_at(&secret, 0);
+    digest(chain(numbered, 0, steps, beginning))
 }
 
 // The public value of a leaf.

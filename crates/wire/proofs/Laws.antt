@@ -1,13 +1,14 @@
 -- Laws of copies and of equal byte strings.
-use Prim.Native.Nat.{ℕ, suc, zero, _+_, _-_, _≤_, _<_}
+use Prim.Native.Nat.{ℕ, suc, zero, _+_, _-_, _*_, _^_, _≤_, _<_}
 use native.Mathlib.Nat.{add-sub-cancel-left}
 use native.Mathlib.Omega.{arith}
 use mathlib.Core.Path.{_≡_, refl, sym, ap, _∙_}
 use mathlib.Core.Bool.{Bool, true, _&&_, and-true, and-assoc}
-use mathlib.Core.List.{List, [], _∷_, append-nil}
+use mathlib.Core.List.{List, [], _∷_, _++_, append-nil}
 use lib.Dec.{eqb}
-use lib.ListN.{length, take, getD, drop-of-length-le, length-take, length-drop}
-use lib.Seq.{paste, take-length}
+use lib.ListN.{length, take, getD, drop-of-length-le, length-take, length-drop, List·getD-append}
+use lib.Seq.{paste, take-length, getD-append-add}
+use Rattle.wire.specs.Numbers.{u32At}
 use Rattle.wire.specs.Parts.{part, same}
 
 -- Two lists, head and tail.
@@ -38,3 +39,20 @@ paste-whole d s e =
 pub copied-part : (d s : List ℕ) (at n : ℕ) → length d ≡ n → at + n ≤ length s
     → paste d 0 (part s at (at + n - at)) (length (part s at (at + n - at))) ≡ part s at n
 copied-part d s at n e h = rw add-sub-cancel-left (paste-whole d (part s at n) (simp (length-take, length-drop) (omega arith)))
+
+-- Numbers of four bytes, byte by byte.
+pub four : (a b c d a′ b′ c′ d′ : ℕ) → a ≡ a′ → b ≡ b′ → c ≡ c′ → d ≡ d′ → a * 2 ^ 24 + b * 2 ^ 16 + c * 2 ^ 8 + d ≡ a′ * 2 ^ 24 + b′ * 2 ^ 16 + c′ * 2 ^ 8 + d′
+four a b c d a′ b′ c′ d′ p q r s = cc
+
+-- A number in the first of two strings, and one in the second.
+pub u32-front : (a b : List ℕ) (at : ℕ) → at + 4 ≤ length a → u32At (a ++ b) at ≡ u32At a at
+unfolding u32At
+u32-front a b at h =
+    four _ _ _ _ _ _ _ _ (List·getD-append a b 0 at (omega arith)) (List·getD-append a b 0 (at + 1) (omega arith)) (List·getD-append a b 0 (at + 2) (omega arith))
+    (List·getD-append a b 0 (at + 3) (omega arith))
+
+pub u32-behind : (a b : List ℕ) (n k : ℕ) → length a ≡ n → u32At (a ++ b) (n + k) ≡ u32At b k
+unfolding u32At
+u32-behind a b n k l = four _ _ _ _ _ _ _ _ (at (n + k) k (omega arith)) (at (n + k + 1) (k + 1) (omega arith)) (at (n + k + 2) (k + 2) (omega arith)) (at (n + k + 3) (k + 3) (omega arith)) where
+  at : (i j : ℕ) → i ≡ length a + j → getD (a ++ b) i 0 ≡ getD b j 0
+  at i j e = ap (λ (m : ℕ). getD (a ++ b) m 0) e ∙ getD-append-add a b j 0
