@@ -1,13 +1,13 @@
 -- What a sound book tells of its clock, of what the opening fixed and of each channel, and the test of its channels one by one.
 use mathlib.Core.Path.{_≡_, refl, sym, ap, _∙_}
 use mathlib.Core.Bool.{Bool, true, _&&_, and-true, and-assoc}
-use mathlib.Core.List.{List, [], _∷_, map}
+use mathlib.Core.List.{List, [], _∷_}
 use Prim.Native.Nat.{ℕ, zero, suc, _+_, _≤_, _<_}
 use native.Mathlib.Numerals.{add-one}
 use native.Mathlib.Omega.{arith}
 use borrow.Author.Tests.{leb-true}
 use lib.Dec.{leb, eqb}
-use lib.ListN.{length, take, getD, length-map}
+use lib.ListN.{length, take, getD}
 use lib.Seq.{take-all}
 use Rattle.machine.specs.Book.{limit, theMark, soundChannel, all, soundSetup, sound, channel, noChannel}
 use Rattle.machine.specs.declared.state.Channel.{Channel}
@@ -37,10 +37,6 @@ sound-context b e =
 pub sound-at : (b : Book) (n : ℕ) → sound b ≡ true → soundChannel (channel b n) ≡ true
 unfolding soundChannel
 sound-at b n e = all-at soundChannel (b .channels) n noChannel refl ((sound-parts b e) .1)
-
--- An array of structs: what owning it tells is of the machine's values.
-pub length-of-map : (X Y : Type 0) (f : X → Y) (l : List X) (n : ℕ) → length (map f l) ≡ n → length l ≡ n
-length-of-map X Y f l n e = sym (length-map l f) ∙ e
 
 -- ---- the test of the channels one by one
 

@@ -9,7 +9,7 @@ use Rattle.sha256.specs.Digest.{sha256, digestOf}
 use Rattle.lms.specs.Layout.{string}
 use Rattle.lms.specs.OneTime.{digits, messageHash, chainStep, walk, chainOf, chainEnd, endOf, keyOfEnds, leafKey}
 use Rattle.lms.proofs.Laws.{digest-length}
-use Rattle.lms.specs.Rows.{row}
+use Rattle.signer.proofs.Parts.{row-same}
 use Rattle.signer.specs.Strings.{secretOf, stringOf, fullEnd, leafPublic}
 
 -- n steps and then m more.
@@ -93,14 +93,9 @@ module _ (seed I ds signature : List ℕ) (q : ℕ) (small : Small ds)
       ∙ walk-add s d (255 - d) 0 x
       ∙ ap (λ (k : ℕ). walk s k 0 x) e
 
-  ends-full : (n : ℕ) → n ≤ 34 → row (endOf I q ds signature) n ≡ row (fullEnd seed I q) n
-  unfolding row
-  ends-full zero h = refl
-  ends-full (suc n) h = cc (ends-full n (omega arith), end-full n (omega arith))
-
 -- So the leaf key that the check comes to is the leaf's public value.
 pub key-full : (seed I Q signature : List ℕ) (q : ℕ) → Small (digits Q)
     → ((i : ℕ) → i < 34 → string signature i ≡ stringOf seed I q i (getD (digits Q) i 0)) → leafKey I q Q signature ≡ leafPublic seed I q
 unfolding leafKey leafPublic keyOfEnds
 key-full seed I Q signature q small strings =
-    ap (λ (t : List ℕ). sha256 (I ++ bytes 4 q ++ bytes 2 0x8080 ++ t)) (ends-full seed I (digits Q) signature q small strings 34 (omega arith))
+    ap (λ (t : List ℕ). sha256 (I ++ bytes 4 q ++ bytes 2 0x8080 ++ t)) (row-same (endOf I q (digits Q) signature) (fullEnd seed I q) 34 (end-full seed I (digits Q) signature q small strings))

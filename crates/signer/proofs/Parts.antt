@@ -73,6 +73,12 @@ put p b at n m lp lb =
 pub put-on : (p b k k′ : List ℕ) (at n m : ℕ) → k ≡ p ++ replicate (n + m) 0 → k′ ≡ paste k at b (length b) → length p ≡ at → length b ≡ n → k′ ≡ p ++ b ++ replicate m 0
 put-on p b k k′ at n m e f lp lb = f ∙ ap (λ (l : List ℕ). paste l at b (length b)) e ∙ put p b at n m lp lb
 
+-- The same strings in a row.
+pub row-same : (f g : ℕ → List ℕ) (n : ℕ) → ((i : ℕ) → i < n → f i ≡ g i) → row f n ≡ row g n
+unfolding row
+row-same f g zero h = refl
+row-same f g (suc n) h = cc (row-same f g n (λ i l. h i (omega arith)), h n (omega arith))
+
 -- Strings of 32 bytes in a row.
 module _ (f : ℕ → List ℕ) (sizes : (i : ℕ) → length (f i) ≡ 32) where
   pub row-length : (n : ℕ) → length (row f n) ≡ 32 * n

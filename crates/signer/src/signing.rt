@@ -8,7 +8,8 @@ ghost use lib.ListN.{length, replicate};
 ghost use Rattle.wire.specs.Numbers.{bytes};
 ghost use Rattle.lms.specs.Layout.{identifier};
 ghost use Rattle.lms.specs.Rows.{row};
-ghost use Rattle.signer.specs.Signature.{siblingOf, pathOf, signedString, signatureOf};
+ghost use Rattle.signer.specs.Signature.{siblingOf, valueAt, pathOf, signedString, signatureOf};
+ghost use Rattle.signer.specs.declared.state.Node.{Node};
 ghost use Rattle.signer.specs.Answers.{noSignature, signOf};
 use crate::state::Node;
 use crate::state::Signature;
@@ -63,6 +64,21 @@ fn sibling(node: usize) -> usize
     if node % 2 == 1 { node - 1 } else { node + 1 }
 }
 
+// The nodes of the path from a signer's next leaf.
+fn path_of(signer: Signer) -> [Node; 10]
+    requires { ⌜ signer .next < 1024 ⌝ }
+    ensures { λ r. ⌜ ((i : ℕ) → i < 10 → valueAt r i ≡ pathOf (signer .nodes) (signer .next) i) ⌝ }
+{
+    let none = Node { value: [0u8; 32] };
+    let mut path = [none; 10];
+    let mut node = 1024 + signer.next as usize;
+    for i in 0..10 {
+        path[i] = signer.nodes[sibling(node)];
+        node = node / 2;
+    }
+    path
+}
+
 // The value of a node.
 fn value_of(node: Node) -> [u8; 32]
     ensures { λ r. ⌜ (r ≡ node .value) × (length r ≡ 32) ⌝ }
@@ -72,30 +88,31 @@ fn value_of(node: Node) -> [u8; 32]
 }
 
 // The ten path strings, written behind the first 1,132 bytes.
-fn with_path(begun: [u8; 1452], leaf: u32, nodes: [Node; 2048]) -> [u8; 1452]
-    requires { ⌜ leaf < 1024 ⌝ }
-    ensures { λ r. ⌜ ((a : List ℕ) → length a ≡ 1132 → begun ≡ a ++ replicate 320 0 → r ≡ a ++ row (pathOf nodes leaf) 10) ⌝ }
+fn with_path(begun: [u8; 1452], path: [Node; 10]) -> [u8; 1452]
+    ensures { λ r. ⌜ ((a : List ℕ) → length a ≡ 1132 → begun ≡ a ++ replicate 320 0 → r ≡ a ++ row (valueAt path) 10) ⌝ }
 {
     let mut signature = begun;
-    let mut node = 1024 + leaf as usize;
     for i in 0..10 {
-        let found = nodes[sibling(node)];
+        let found = path[i];
         let value = value_of(found);
         copy_into(&value, &mut signature, 1132 + 32 * i);
-        node = node / 2;
     }
     signature
 }
 
-// The signature with a signer's next leaf.
-fn signature_by(signer: Signer, nonce: [u8; 32], message: &[u8]) -> [u8; 1452]
-    requires { ⌜ (signer .next < 1024) × (length (now message) ≤ 1024) ⌝ }
-    ensures { λ r. ⌜ r ≡ signatureOf (signer .seed) (identifier (signer .key)) (signer .nodes) (signer .next) nonce (now (message .entry)) ⌝ }
+// A signature by a leaf, whose path is given.
+fn signature_by(
+    key: [u8; 56],
+    seed: [u8; 32],
+    leaf: u32,
+    path: [Node; 10],
+    nonce: [u8; 32],
+    message: &[u8],
+) -> [u8; 1452]
+    requires { ⌜ length (now message) ≤ 1024 ⌝ }
+    ensures { λ r. ⌜ ((nodes : List Node) → ((i : ℕ) → i < 10 → valueAt path i ≡ pathOf nodes leaf i)
+        → r ≡ signatureOf seed (identifier key) nodes leaf nonce (now (message .entry))) ⌝ }
 {
-    let key = signer.key;
-    let seed = signer.seed;
-    let nodes = signer.nodes;
-    let leaf = signer.next;
     let id = id_at(&key, 8);
     let hash = message_hash(id, leaf, nonce, message);
     let digits = digits_of(hash);
@@ -103,7 +120,7 @@ fn signature_by(signer: Signer, nonce: [u8; 32], message: &[u8]) -> [u8; 1452]
     let mut signature = with_strings(begun, id, leaf, digits, seed);
     let six = u32_bytes(6);
     copy_into(&six, &mut signature, 1128);
-    with_path(signature, leaf, nodes)
+    with_path(signature, path)
 }
 
 // The answer of a signing that is refused: zeros.
@@ -129,7 +146,10 @@ fn answer(signer: Signer, nonce: &[u8], message: &[u8]) -> Signature
     if 1024 <= signer.next {
         return refused(15);
     }
-    let bytes = signature_by(signer, digest_at(nonce, 0), message);
+    let path = path_of(signer);
+    let key = signer.key;
+    let seed = signer.seed;
+    let bytes = signature_by(key, seed, signer.next, path, digest_at(nonce, 0), message);
     Signature { refusal: 0, bytes }
 }
 

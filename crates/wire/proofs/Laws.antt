@@ -1,12 +1,12 @@
--- Laws of copies and of equal byte strings.
+-- Laws of copies, of equal byte strings, of numbers in them and of arrays.
 use Prim.Native.Nat.{ℕ, suc, zero, _+_, _-_, _*_, _^_, _≤_, _<_}
 use native.Mathlib.Nat.{add-sub-cancel-left}
 use native.Mathlib.Omega.{arith}
 use mathlib.Core.Path.{_≡_, refl, sym, ap, _∙_}
 use mathlib.Core.Bool.{Bool, true, _&&_, and-true, and-assoc}
-use mathlib.Core.List.{List, [], _∷_, _++_, append-nil}
+use mathlib.Core.List.{List, [], _∷_, _++_, append-nil, map}
 use lib.Dec.{eqb}
-use lib.ListN.{length, take, getD, drop-of-length-le, length-take, length-drop, List·getD-append}
+use lib.ListN.{length, take, getD, drop-of-length-le, length-take, length-drop, length-map, List·getD-append}
 use lib.Seq.{paste, take-length, getD-append-add}
 use Rattle.wire.specs.Numbers.{u32At}
 use Rattle.wire.specs.Parts.{part, same}
@@ -39,6 +39,10 @@ paste-whole d s e =
 pub copied-part : (d s : List ℕ) (at n : ℕ) → length d ≡ n → at + n ≤ length s
     → paste d 0 (part s at (at + n - at)) (length (part s at (at + n - at))) ≡ part s at n
 copied-part d s at n e h = rw add-sub-cancel-left (paste-whole d (part s at n) (simp (length-take, length-drop) (omega arith)))
+
+-- An array of structs: what owning it tells is of the machine's values.
+pub length-of-map : (X Y : Type 0) (f : X → Y) (l : List X) (n : ℕ) → length (map f l) ≡ n → length l ≡ n
+length-of-map X Y f l n e = sym (length-map l f) ∙ e
 
 -- Numbers of four bytes, byte by byte.
 pub four : (a b c d a′ b′ c′ d′ : ℕ) → a ≡ a′ → b ≡ b′ → c ≡ c′ → d ≡ d′ → a * 2 ^ 24 + b * 2 ^ 16 + c * 2 ^ 8 + d ≡ a′ * 2 ^ 24 + b′ * 2 ^ 16 + c′ * 2 ^ 8 + d′

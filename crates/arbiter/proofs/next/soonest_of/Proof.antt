@@ -11,7 +11,7 @@ use borrow.Author.Needs.{needs}
 use Rattle.machine.specs.Due.{sooner, soonest}
 use Rattle.machine.specs.Book.{noChannel, seconds}
 use Rattle.machine.specs.declared.state.Channel.{Channel}
-use Rattle.command.proofs.SoundBook.{length-of-map}
+use Rattle.wire.proofs.Laws.{length-of-map}
 use Rattle.arbiter.proofs.next.soonest_of.Statement.{statement}
 use Rattle.arbiter.proofs.next.soonest_of.Tie as tie
 

@@ -4,7 +4,8 @@ use mathlib.Core.Path.{_≡_}
 use lib.ListN.{length}
 use borrow.Author.Needs.{needs}
 use Rattle.machine.specs.declared.state.Book.{Book}
-use Rattle.command.proofs.SoundBook.{length-of-map, Tested, tested-none, tested-more, tested-all}
+use Rattle.command.proofs.SoundBook.{Tested, tested-none, tested-more, tested-all}
+use Rattle.wire.proofs.Laws.{length-of-map}
 use Rattle.command.proofs.soundness.sound.Statement.{statement}
 use Rattle.command.proofs.soundness.sound.Tie as tie
 

@@ -8,7 +8,8 @@ use Rattle.machine.specs.Format.{opcode, size}
 use Rattle.machine.specs.Checks.{clean, judge}
 use Rattle.machine.specs.Machine.{shared}
 use Rattle.machine.specs.declared.state.Book.{Book}
-use Rattle.command.proofs.SoundBook.{sound-at, sound-context, length-of-map, Tested, tested-none, tested-more, tested-all}
+use Rattle.command.proofs.SoundBook.{sound-at, sound-context, Tested, tested-none, tested-more, tested-all}
+use Rattle.wire.proofs.Laws.{length-of-map}
 use Rattle.command.proofs.Stepping.{Shared, shared-by, shared-ok, least, step-stops, step-clock, step-far, step-channel}
 use borrow.Author.Needs.{needs}
 use Rattle.command.proofs.steps.step.Statement.{statement}

@@ -41,7 +41,7 @@ loop-again c =
       omega arith,
       l .inv .1
           ∙ quarter (l .i) (listed (chosen .constants .result)) (listed (l .w)) (listed (c .words-after .result)) (l .v) (turned .sixteen-rounds .result) (omega arith) (quartered (l .i) (omega arith) ∙ k) refl refl
-              (c .words-after .ensures) (turned .sixteen-rounds .ensures),
+          (c .words-after .ensures) (turned .sixteen-rounds .ensures),
     )
 
 returns : tie.Need-returns Inv-loop μ-loop

@@ -63,12 +63,13 @@ returns-3 c =
 returns-4 : tie.Need-returns-4
 returns-4 c =
     let at-nonce = c .before in
-    let t₃ = at-nonce .before in
+    let at-path = at-nonce .before .before .before in
+    let t₃ = at-path .before in
     let t₂ = t₃ .before .before in
     let t₁ = t₂ .before in
     let a = t₁ .before .before .before .args in
-    accepted (a .signer) (a .nonce .now) (a .message .now) _ _ (c .signature-by .ensures) (at-nonce .digest-at .ensures) (t₁ .if1 .left) (le-leb _ _ (t₂ .if2 .left))
-    (lt-ltb _ _ (t₃ .if3 .left))
+    accepted (a .signer) (a .nonce .now) (a .message .now) _ _ (c .signature-by .ensures (a .signer .nodes) (at-path .path-of .ensures)) (at-nonce .digest-at .ensures) (t₁ .if1 .left)
+    (le-leb _ _ (t₂ .if2 .left)) (lt-ltb _ _ (t₃ .if3 .left))
 
 pub answer-spec : {M : Type 1} → statement M
 answer-spec =
@@ -80,6 +81,7 @@ answer-spec =
     returns-2
     (λ c κs. search needs)
     returns-3
+    (λ c κs. search needs)
     (λ c κs. search needs)
     (λ c κs. search needs)
     returns-4)
