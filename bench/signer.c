@@ -8,7 +8,7 @@
 void c_compressions(uint32_t h[8], const uint8_t block[64], int count);
 
 // A private string and 255 steps for each of 34 chains, 18 blocks of their ends and one of the leaf's node; two for each node above the leaves.
-enum { CHAINS = 34, ALL_STEPS = CHAINS * 255, MAKING = 1024 * (CHAINS + ALL_STEPS + 18 + 1) + 1023 * 2, MAKINGS = 3, MESSAGES = 8, TRIES = 100 };
+enum { CHAINS = 34, ALL_STEPS = CHAINS * 255, MAKING = 1024 * (CHAINS + ALL_STEPS + 18 + 1) + 1023 * 2, MAKINGS = 5, MESSAGES = 8, TRIES = 100 };
 
 static struct finaruvom_signer signer;
 static uint8_t seed[FINARUVOM_SEED_SIZE], id[FINARUVOM_ID_SIZE], nonce[FINARUVOM_NONCE_SIZE], message[100];

@@ -8,7 +8,7 @@
 #include <string.h>
 #include <ucontext.h>
 
-enum { N = 5, CLOCK = 1000, STACK = 1 << 19, PAINT = 0xA5, MUTUAL = 5, MAKING_COPIES = 1, SIGNING_COPIES = 4 };
+enum { N = 5, CLOCK = 1000, STACK = 1 << 19, PAINT = 0xA5, MUTUAL = 5, MAKING_COPIES = 1, SIGNING_COPIES = 3 };
 
 // What a call is lent, how often it copies that at most, and how many bytes it copies in all; a key making copies some 780 for each leaf.
 struct lent {
@@ -203,9 +203,9 @@ static size_t measure(const char *name, void (*call)(void), bool expected(void),
     return measure_lent(&lent_book, name, call, expected, turns, limit);
 }
 
-// The check keeps no list of its chain ends, 34 of 32 bytes: it takes some 3,500 bytes of stack, and with one it would take more than this.
+// The check keeps no list of its chain ends, 34 of 32 bytes: it takes some 3,000 bytes of stack, and with one it would take more than this.
 static void keeps_no_list(size_t check_took) {
-    if (check_took > 4096) {
+    if (check_took > 3584) {
         printf("the check takes more than it should WITHOUT A LIST OF CHAIN ENDS\n");
         wrong = 1;
     }
