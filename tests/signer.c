@@ -1,4 +1,4 @@
-// Key making and signing through the exported calls: signer FILE. Signers with any bytes first, then the makings and signings of FILE, which were published;
+// Key making and signing through the exported calls: signer FILE. Signers with any bytes first, then the makings and signings of FILE, which come from outside;
 // what was signed passes the check, and no longer with one bit turned over.
 #include "../include/finaruvom.h"
 #include <stdio.h>
@@ -83,7 +83,7 @@ static void any_bytes(void) {
 static size_t bytes_of(const char *hex, uint8_t *bytes, size_t most) {
     size_t n = 0;
     for (; hex[0] != '-' && hex[2 * n] != '\0'; n++)
-        must(n < most && sscanf(hex + 2 * n, "%2hhx", &bytes[n]) == 1, "a line of the file cannot be read");
+        must(n < most && hex[2 * n + 1] != '\0' && sscanf(hex + 2 * n, "%2hhx", &bytes[n]) == 1, "a line of the file cannot be read");
     return n;
 }
 
@@ -105,30 +105,30 @@ static void held_to_the_check(const uint8_t *message, size_t message_n, uint8_t 
     }
 }
 
-static void published_making(char **words) {
+static void given_making(char **words) {
     uint8_t seed[64], id[64], key[FINARUVOM_KEY_SIZE];
     size_t seed_n = bytes_of(words[1], seed, sizeof seed), id_n = bytes_of(words[2], id, sizeof id);
-    bytes_of(words[6], key, sizeof key);
-    must(finaruvom_make_key(&signer, seed, seed_n, id, id_n) == strtoul(words[4], NULL, 10), "a published key making answers otherwise");
-    must(signer.next == strtoul(words[5], NULL, 10) && memcmp(signer.key, key, sizeof key) == 0, "a published key making has another key or next leaf");
+    must(bytes_of(words[6], key, sizeof key) == sizeof key, "a given key has another length");
+    must(finaruvom_make_key(&signer, seed, seed_n, id, id_n) == strtoul(words[4], NULL, 10), "a given key making answers otherwise");
+    must(signer.next == strtoul(words[5], NULL, 10) && memcmp(signer.key, key, sizeof key) == 0, "a given key making has another key or next leaf");
     must(memcmp(signer.nodes[1].value, key + 24, 32) == 0 && memcmp(&signer.nodes[0], zeros, 32) == 0, "a made tree has another root, or no zeros before it");
 }
 
-static void published_signing(char **words) {
+static void given_signing(char **words) {
     uint8_t nonce[64], message[2048], expected[FINARUVOM_SIGNATURE_SIZE];
     size_t nonce_n = bytes_of(words[1], nonce, sizeof nonce), message_n = bytes_of(words[2], message, sizeof message);
-    bytes_of(words[6], expected, sizeof expected);
+    must(bytes_of(words[6], expected, sizeof expected) == sizeof expected, "a given signature has another length");
     before = signer;
     struct finaruvom_signature made = finaruvom_sign(&signer, nonce, nonce_n, message, message_n);
-    must(made.refusal == strtoul(words[4], NULL, 10), "a published signing answers otherwise");
-    must(memcmp(made.bytes, expected, sizeof expected) == 0, "a published signing has another signature");
-    must(moved_to((uint32_t)strtoul(words[5], NULL, 10)), "a published signing moves the signer otherwise");
+    must(made.refusal == strtoul(words[4], NULL, 10), "a given signing answers otherwise");
+    must(memcmp(made.bytes, expected, sizeof expected) == 0, "a given signing has another signature");
+    must(moved_to((uint32_t)strtoul(words[5], NULL, 10)), "a given signing moves the signer otherwise");
     if (made.refusal == FINARUVOM_ACCEPTED)
         held_to_the_check(message, message_n, made.bytes);
 }
 
 // Reads a line of the file; whether it is no remark.
-static bool published(char *line) {
+static bool given(char *line) {
     char *words[7] = {NULL};
     size_t n = 0;
     for (char *word = strtok(line, " \n"); word != NULL && n < 7; word = strtok(NULL, " \n"))
@@ -136,9 +136,9 @@ static bool published(char *line) {
     if (n == 0 || words[0][0] == '#')
         return false;
     if (n == 7 && strcmp(words[0], "make") == 0)
-        published_making(words);
+        given_making(words);
     else if (n == 7 && strcmp(words[0], "sign") == 0)
-        published_signing(words);
+        given_signing(words);
     else {
         must(n == 3 && strcmp(words[0], "leaf") == 0, "a line of the file cannot be read");
         signer.next = (uint32_t)strtoul(words[1], NULL, 10);
@@ -154,8 +154,8 @@ int main(int argc, char **argv) {
     FILE *file = fopen(argv[1], "r");
     must(file != NULL, "no file");
     while (fgets(line, sizeof line, file) != NULL)
-        lines += published(line);
+        lines += given(line);
     must(lines == 22, "the file has another number of lines");
-    puts("ok: what any signer refuses and signs, the published keys and signatures, and the check of these");
+    puts("ok: what any signer refuses and signs, the keys and signatures from outside, and the check of these");
     return 0;
 }

@@ -3,12 +3,10 @@ ghost use mathlib.Core.Path.{_≡_};
 ghost use Rattle.sha256.specs.Answer.{hashAnswer};
 
 mod bytes;
-mod pair;
 mod state;
 mod step;
 
 pub use bytes::digest;
-pub use pair::hash_pair;
 pub use state::Sha256;
 pub use step::hash_after;
 pub use step::value_at;

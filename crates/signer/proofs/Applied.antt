@@ -4,14 +4,14 @@ use native.Mathlib.Omega.{arith}
 use mathlib.Core.Path.{_≡_, refl}
 use mathlib.Core.Bool.{true}
 use mathlib.Core.List.{List, [], _∷_}
-use lib.ListN.{length, replicate}
+use lib.ListN.{replicate}
 use Rattle.lms.specs.Layout.{leaf}
 use Rattle.lms.specs.Check.{checkOf}
 use Rattle.signer.specs.declared.state.Signer.{Signer}
 use Rattle.signer.specs.declared.state.SignedMessage.{SignedMessage}
 use Rattle.signer.specs.Nodes.{keyOf}
 use Rattle.signer.specs.Answers.{makeOf, signOf}
-use Rattle.signer.specs.Signings.{Signing, signings, leaves, Passing, none, more, SignerSafe}
+use Rattle.signer.specs.Signings.{Signing, signings, leaves, Passing, more, SignerSafe}
 use Rattle.signer.proofs.Signings.{signerTheorem}
 
 abbrev seed : List ℕ

@@ -1,29 +1,27 @@
 -- A signature of a fresh signer's tree passes the check under its key.
-use Prim.Native.Nat.{ℕ, zero, suc, _+_, _-_, _*_, _/_, _%_, _^_, _≤_, _<_}
+use Prim.Native.Nat.{ℕ, zero, suc, _+_, _-_, _*_, _/_, _^_, _≤_, _<_}
 use native.Mathlib.Nat.{div-le-self}
 use native.Mathlib.Omega.{arith}
 use mathlib.Core.Path.{_≡_, refl, ap, sym, subst, _∙_}
-use mathlib.Core.Bool.{Bool, true, false, cond, _&&_, false≢true}
+use mathlib.Core.Bool.{Bool, true, false, _&&_, false≢true}
 use mathlib.Core.List.{List, [], _∷_, _++_}
 use borrow.Author.Tests.{eq-eqb, lt-ltb, le-leb}
-use lib.Dec.{leb, eqb, ltb}
+use lib.Dec.{leb}
 use lib.ListN.{length, getD, length-append}
-use Rattle.wire.specs.Numbers.{bytes, u32At}
+use Rattle.wire.specs.Numbers.{bytes}
 use Rattle.wire.specs.Parts.{part, same}
 use Rattle.wire.proofs.Laws.{u32-front}
-use Rattle.sha256.specs.Digest.{sha256}
 use Rattle.lms.specs.declared.Checked.{Checked}
-use Rattle.lms.specs.Layout.{identifier, root, leaf, oneTimeType, nonce, string, treeType, path, keyType, keyOneTimeType, wellFormed, rightTypes}
+use Rattle.lms.specs.Layout.{identifier, root, leaf, oneTimeType, nonce, string, treeType, path, keyType, keyOneTimeType, wellFormed}
 use Rattle.lms.specs.OneTime.{messageHash, digits, leafKey}
 use Rattle.lms.specs.Tree.{leafNode, climb}
 use Rattle.lms.specs.Check.{verifiedOf, checkedBy, checkOf}
-use Rattle.signer.specs.declared.state.Node.{Node}
 use Rattle.lms.specs.Rows.{row}
 use Rattle.signer.specs.Strings.{stringOf, leafPublic}
 use Rattle.signer.specs.Nodes.{T, nodesOf, keyOf}
-use Rattle.signer.specs.Signature.{siblingOf, valueAt, pathOf, signedString, signatureOf}
+use Rattle.signer.specs.Signature.{siblingOf, pathOf, signedString, signatureOf}
 use Rattle.signer.proofs.Parts.{part-last, part-front, part-behind, bytes-length, u32-last, row-length, row-part}
-use Rattle.signer.proofs.Chains.{string-length, Small, small-digits, key-full}
+use Rattle.signer.proofs.Chains.{string-length, small-digits, key-full}
 use Rattle.signer.proofs.Tree.{below-top, sibling-low, sibling-high, T-length, T-eq, leaf-alone, climb-root, kept-at, kept-length}
 
 -- ---- what stands where in a signature

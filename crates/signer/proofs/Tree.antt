@@ -2,22 +2,20 @@
 use Prim.Native.Nat.{ℕ, zero, suc, _+_, _-_, _*_, _/_, _%_, _^_, _≤_, _<_}
 use native.Mathlib.Nat.{pow-suc, pow-succ', mul-assoc, mul-le-mul-left, pow-le-pow-right, le-div-iff-mul-le, div-le-self, one-le-pow}
 use native.Mathlib.Omega.{arith}
-use mathlib.Core.Path.{_≡_, refl, ap, sym, subst, _∙_}
+use mathlib.Core.Path.{_≡_, refl, ap, sym, _∙_}
 use mathlib.Core.Bool.{Bool, true, false, cond}
-use mathlib.Core.List.{List, [], _∷_, _++_}
+use mathlib.Core.List.{List, []}
 use borrow.Author.Tests.{le-leb, lt-leb, eqb-true, eqb-false, leb-true, leb-false}
 use lib.Dec.{leb, eqb}
 use lib.ListN.{length, getD, set, length-set}
 use lib.Seq.{getD-set-same, getD-set-other, ext-getD}
-use Rattle.wire.specs.Numbers.{bytes}
-use Rattle.sha256.specs.Digest.{sha256}
 use Rattle.lms.specs.Tree.{leafNode, innerNode, parentOf, climb}
 use Rattle.lms.proofs.Laws.{digest-length}
 use Rattle.lms.proofs.Climbing.{half}
 use Rattle.signer.specs.declared.state.Node.{Node}
 use Rattle.signer.specs.Strings.{leafPublic}
 use Rattle.signer.specs.Nodes.{nodeOf, treeNode, T, nodesFrom, nodesOf, noNode}
-use Rattle.signer.specs.Signature.{siblingOf, valueAt}
+use Rattle.signer.specs.Signature.{siblingOf, nodeValue}
 
 -- What is read past the end of a tree.
 abbrev empty : Node
@@ -151,10 +149,10 @@ module _ (seed I : List ℕ) where
   kept-node zero l h = absurd (omega arith)
   kept-node (suc k) l h = from-at empty 2047 1 k (omega arith) ∙ ap (λ (j : ℕ). record { value = T seed I j }) (omega arith)
 
-  pub kept-at : (r : ℕ) → 1 ≤ r → r < 2048 → valueAt (nodesOf seed I) r ≡ T seed I r
+  pub kept-at : (r : ℕ) → 1 ≤ r → r < 2048 → nodeValue (nodesOf seed I) r ≡ T seed I r
   kept-at r l h = ap (λ (x : Node). x .value) (kept-node r l h)
 
-  pub kept-length : (r : ℕ) → r < 2048 → length (valueAt (nodesOf seed I) r) ≡ 32
+  pub kept-length : (r : ℕ) → r < 2048 → length (nodeValue (nodesOf seed I) r) ≡ 32
   unfolding nodesOf
   kept-length zero h = refl
   kept-length (suc k) h = ap (λ (x : Node). length (x .value)) (from-at empty 2047 1 k (omega arith)) ∙ T-length (1 + k)
@@ -167,9 +165,9 @@ module _ (seed I : List ℕ) where
     pub above : (k : ℕ) → r < k → k < 2048 → getD nodes k empty ≡ record { value = T seed I k }
 
   -- The value of node r by what stands in the places of its children.
-  value-of : (nodes : List Node) (r : ℕ) → Filled nodes r → 0 < r → nodeOf seed I r (valueAt nodes (2 * r % 2048)) (valueAt nodes ((2 * r + 1) % 2048)) ≡ T seed I r
+  value-of : (nodes : List Node) (r : ℕ) → Filled nodes r → 0 < r → nodeOf seed I r (nodeValue nodes (2 * r % 2048)) (nodeValue nodes ((2 * r + 1) % 2048)) ≡ T seed I r
   value-of nodes r f h = go (leb 1024 r) refl where
-    go : (b : Bool) → leb 1024 r ≡ b → nodeOf seed I r (valueAt nodes (2 * r % 2048)) (valueAt nodes ((2 * r + 1) % 2048)) ≡ T seed I r
+    go : (b : Bool) → leb 1024 r ≡ b → nodeOf seed I r (nodeValue nodes (2 * r % 2048)) (nodeValue nodes ((2 * r + 1) % 2048)) ≡ T seed I r
     go true e =
         let l : 1024 ≤ r = leb-true 1024 r e in
         leaf-alone r _ _ l ∙ sym (T-eq r h ∙ leaf-alone r _ _ l)
@@ -177,14 +175,14 @@ module _ (seed I : List ℕ) where
         let l : r < 1024 = leb-false 1024 r e in
         let a : 2 * r % 2048 ≡ 2 * r = omega arith in
         let b : (2 * r + 1) % 2048 ≡ 2 * r + 1 = omega arith in
-        let x : valueAt nodes (2 * r % 2048) ≡ T seed I (2 * r) =
-        ap (valueAt nodes) a ∙ ap (λ (n : Node). n .value) (f .above (2 * r) (omega arith) (omega arith)) in
-        let y : valueAt nodes ((2 * r + 1) % 2048) ≡ T seed I (2 * r + 1) =
-        ap (valueAt nodes) b ∙ ap (λ (n : Node). n .value) (f .above (2 * r + 1) (omega arith) (omega arith)) in
-        ap (λ (t : List ℕ). nodeOf seed I r t (valueAt nodes ((2 * r + 1) % 2048))) x ∙ ap (nodeOf seed I r (T seed I (2 * r))) y ∙ sym (T-eq r h)
+        let x : nodeValue nodes (2 * r % 2048) ≡ T seed I (2 * r) =
+        ap (nodeValue nodes) a ∙ ap (λ (n : Node). n .value) (f .above (2 * r) (omega arith) (omega arith)) in
+        let y : nodeValue nodes ((2 * r + 1) % 2048) ≡ T seed I (2 * r + 1) =
+        ap (nodeValue nodes) b ∙ ap (λ (n : Node). n .value) (f .above (2 * r + 1) (omega arith) (omega arith)) in
+        ap (λ (t : List ℕ). nodeOf seed I r t (nodeValue nodes ((2 * r + 1) % 2048))) x ∙ ap (nodeOf seed I r (T seed I (2 * r))) y ∙ sym (T-eq r h)
 
   pub fill : (nodes : List Node) (r : ℕ) (x : List ℕ) → Filled nodes r → 0 < r
-      → x ≡ nodeOf seed I r (valueAt nodes (2 * r % 2048)) (valueAt nodes ((2 * r + 1) % 2048)) → Filled (set nodes r (record { value = x })) (r - 1)
+      → x ≡ nodeOf seed I r (nodeValue nodes (2 * r % 2048)) (nodeValue nodes ((2 * r + 1) % 2048)) → Filled (set nodes r (record { value = x })) (r - 1)
   fill nodes r x f h e =
       record {
         size = length-set nodes r (record { value = x }) ∙ f .size;

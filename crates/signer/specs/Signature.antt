@@ -15,12 +15,12 @@ abbrev pub siblingOf : ℕ → ℕ
 siblingOf node = cond (eqb (node % 2) 1) (node - 1) (node + 1)
 
 -- The value of a node of a tree that is kept; nothing past its end.
-abbrev pub valueAt : List Node → ℕ → List ℕ
-valueAt nodes r = (getD nodes r (record { value = [] })) .value
+abbrev pub nodeValue : List Node → ℕ → List ℕ
+nodeValue nodes r = (getD nodes r (record { value = [] })) .value
 
 -- path[i]: the sibling of the node i levels above the leaf.
 abbrev pub pathOf : List Node → ℕ → ℕ → List ℕ
-pathOf nodes q i = valueAt nodes (siblingOf ((1024 + q) / 2 ^ i))
+pathOf nodes q i = nodeValue nodes (siblingOf ((1024 + q) / 2 ^ i))
 
 -- y[i]: chain i walked as many steps as digit i says.
 abbrev pub signedString : List ℕ → List ℕ → ℕ → List ℕ → ℕ → List ℕ

@@ -1,6 +1,5 @@
 // The tree, from the leaves up to the root.
 ghost use mathlib.Core.Path.{_≡_};
-ghost use Prim.Native.Nat.{_<_};
 ghost use Rattle.signer.specs.Nodes.{nodeOf, nodesOf};
 use crate::state::Node;
 use crate::strings::leaf_public;

@@ -8,7 +8,7 @@ ghost use lib.ListN.{length, replicate};
 ghost use Rattle.wire.specs.Numbers.{bytes};
 ghost use Rattle.lms.specs.Layout.{identifier};
 ghost use Rattle.lms.specs.Rows.{row};
-ghost use Rattle.signer.specs.Signature.{siblingOf, valueAt, pathOf, signedString, signatureOf};
+ghost use Rattle.signer.specs.Signature.{siblingOf, nodeValue, pathOf, signedString, signatureOf};
 ghost use Rattle.signer.specs.declared.state.Node.{Node};
 ghost use Rattle.signer.specs.Answers.{noSignature, signOf};
 use crate::state::Node;
@@ -67,7 +67,7 @@ fn sibling(node: usize) -> usize
 // The nodes of the path from a signer's next leaf.
 fn path_of(signer: Signer) -> [Node; 10]
     requires { ⌜ signer .next < 1024 ⌝ }
-    ensures { λ r. ⌜ ((i : ℕ) → i < 10 → valueAt r i ≡ pathOf (signer .nodes) (signer .next) i) ⌝ }
+    ensures { λ r. ⌜ ((i : ℕ) → i < 10 → nodeValue r i ≡ pathOf (signer .nodes) (signer .next) i) ⌝ }
 {
     let none = Node { value: [0u8; 32] };
     let mut path = [none; 10];
@@ -89,7 +89,7 @@ fn value_of(node: Node) -> [u8; 32]
 
 // The ten path strings, written behind the first 1,132 bytes.
 fn with_path(begun: [u8; 1452], path: [Node; 10]) -> [u8; 1452]
-    ensures { λ r. ⌜ ((a : List ℕ) → length a ≡ 1132 → begun ≡ a ++ replicate 320 0 → r ≡ a ++ row (valueAt path) 10) ⌝ }
+    ensures { λ r. ⌜ ((a : List ℕ) → length a ≡ 1132 → begun ≡ a ++ replicate 320 0 → r ≡ a ++ row (nodeValue path) 10) ⌝ }
 {
     let mut signature = begun;
     for i in 0..10 {
@@ -110,7 +110,7 @@ fn signature_by(
     message: &[u8],
 ) -> [u8; 1452]
     requires { ⌜ length (now message) ≤ 1024 ⌝ }
-    ensures { λ r. ⌜ ((nodes : List Node) → ((i : ℕ) → i < 10 → valueAt path i ≡ pathOf nodes leaf i)
+    ensures { λ r. ⌜ ((nodes : List Node) → ((i : ℕ) → i < 10 → nodeValue path i ≡ pathOf nodes leaf i)
         → r ≡ signatureOf seed (identifier key) nodes leaf nonce (now (message .entry))) ⌝ }
 {
     let id = id_at(&key, 8);

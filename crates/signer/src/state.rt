@@ -1,4 +1,5 @@
 // What a signer holds, and what key making and signing answer.
+
 // The value of one node of the tree.
 #[repr(C)]
 pub struct Node {

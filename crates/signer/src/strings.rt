@@ -9,7 +9,7 @@ use lms::begun;
 use lms::chain;
 use lms::chain_start;
 use sha256::digest;
-use sha256::hash_pair;
+use sha256::hash_after;
 use sha256::value_at;
 
 // The string of chain i after the given steps, where start is what `chain_start` gives.
@@ -20,9 +20,8 @@ pub fn chain_string(start: [u8; 23], i: usize, steps: u8, seed: [u8; 32]) -> [u8
     let mut numbered = start;
     numbered[21] = i as u8;
     numbered[22] = 0xff;
-    let secret = hash_pair(&numbered, &seed);
-    let beginning = value_at(&secret, 0);
-    digest(chain(numbered, 0, steps, beginning))
+    let secret = hash_after(numbered, value_at(&seed, 0));
+    digest(chain(numbered, 0, steps, secret))
 }
 
 // The public value of a leaf.

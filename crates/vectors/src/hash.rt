@@ -5,6 +5,7 @@ use crate::print::part;
 use crate::print::print_digest;
 use libc::STDOUT_FILENO;
 use sha256::Sha256;
+use wire::copy_into;
 
 // Byte i of the long message is 7 * i + 3, modulo 256.
 fn long_message() -> [u8; 65537]
@@ -55,19 +56,16 @@ fn print_length(m: &[u8], n: usize) {
     print_parts(message);
 }
 
-// The digest of the first 55 bytes of m, as two parts of which the first ends at byte at.
-fn print_pair(m: &[u8], at: usize) {
+// The digest of the first 55 bytes of m, as 23 bytes and a hash value.
+fn print_after(m: &[u8]) {
     if m.len() < 55 {
         return;
     }
-    if 55 < at {
-        return;
-    }
-    let digest = sha256::hash_pair(part(m, 0, at), part(m, at, 55));
-    io::write_all(STDOUT_FILENO, b"  in two parts, the first of ");
-    io::print_decimal(STDOUT_FILENO, at as u64);
-    io::write_all(STDOUT_FILENO, b" ");
-    print_digest(digest);
+    let mut first = [0u8; 23];
+    copy_into(part(m, 0, 23), &mut first, 0);
+    let value = sha256::hash_after(first, sha256::value_at(m, 23));
+    io::write_all(STDOUT_FILENO, b"  as 23 bytes and a hash value ");
+    print_digest(sha256::digest(value));
 }
 
 // Lengths around one block and two, and around the limit.
@@ -76,9 +74,7 @@ fn print_edges(m: &[u8]) {
     print_length(m, 1);
     print_length(m, 54);
     print_length(m, 55);
-    print_pair(m, 0);
-    print_pair(m, 23);
-    print_pair(m, 55);
+    print_after(m);
     print_length(m, 56);
     print_length(m, 57);
     print_length(m, 63);

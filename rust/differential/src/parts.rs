@@ -13,16 +13,16 @@ mod strings;
 use crate::pair::Outcome;
 use crate::rng::Rng;
 use crate::tally::Tally;
+use crate::tills::Tills;
 use crate::wallet::Wallet;
-use oracle::Till;
 use std::panic::{catch_unwind, AssertUnwindSafe};
 
 /// What the cases of a run share.
 #[derive(Default)]
 pub struct World {
     pub wallet: Wallet,
-    /// The signer of the key that library and oracle made.
-    pub made: Option<Till>,
+    /// The signers of the key that library and oracle made.
+    pub made: Option<Tills>,
     pub tally: Tally,
 }
 

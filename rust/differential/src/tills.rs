@@ -6,7 +6,11 @@ use crate::pair::{hex, same, Outcome};
 use crate::tally::Tally;
 use finaruvom::{raw, Refusal, Signer};
 use oracle::{Signed, Till};
+use std::ops::Range;
 use std::thread;
+
+/// Where the next leaf stands in a stored signer.
+const NEXT: Range<usize> = 88..92;
 
 /// Two signers that must stay equal.
 pub struct Tills {
@@ -17,12 +21,24 @@ pub struct Tills {
 impl Tills {
     /// Both with these values.
     pub fn new(oracle: Till) -> Tills {
-        let bytes = to_signer(&oracle);
-        let library = Signer::from_bytes(&bytes).expect("as many bytes as a signer has");
+        let library = restored(&to_signer(&oracle));
         Tills { library, oracle }
     }
 
-    /// Makes a key in both, whatever stands there. It takes seconds where it is accepted.
+    /// A copy of each, with this next leaf.
+    pub fn at(&self, next: u32) -> Tills {
+        let mut bytes = self.library.as_bytes().to_vec();
+        bytes[NEXT].copy_from_slice(&next.to_le_bytes());
+        let library = restored(&bytes);
+        let oracle = Till {
+            next,
+            ..self.oracle.clone()
+        };
+        Tills { library, oracle }
+    }
+
+    /// Makes a key in both, whatever stands there; each goes on from its own. It takes seconds where
+    /// it is accepted.
     pub fn make(&mut self, seed: &[u8], identifier: &[u8], tally: &mut Tally) -> Outcome {
         let before = self.library.as_bytes();
         let (lent, made) = thread::scope(|scope| {
@@ -39,7 +55,8 @@ impl Tills {
             let wrapped = Signer::make(seed, identifier).err();
             same("wrapped key making", &wrapped, &Some(Refusal::Length))?;
         }
-        *self = Tills::new(made.1);
+        self.library = restored(&after);
+        self.oracle = made.1;
         self.agree(&after)
     }
 
@@ -76,12 +93,17 @@ impl Tills {
     }
 }
 
+/// The library's signer of these bytes.
+fn restored(bytes: &[u8]) -> Signer {
+    Signer::from_bytes(bytes).expect("as many bytes as a signer has")
+}
+
 /// Whether the bytes of a signer are the oracle's; if not, where they differ.
 fn same_signer(which: &str, library: &[u8], oracle: &[u8]) -> Outcome {
     if library == oracle {
         return Ok(());
     }
-    for (part, place) in [("key", 0..56), ("seed", 56..88), ("next leaf", 88..92)] {
+    for (part, place) in [("key", 0..56), ("seed", 56..88), ("next leaf", NEXT)] {
         let what = format!("{part} of the {which} signer");
         same(&what, &&library[place.clone()], &&oracle[place])?;
     }

@@ -3,14 +3,14 @@ use finaruvom::{check, Refusal, Signer, LEAVES, SIGNATURE_SIZE, SIGNER_SIZE};
 use std::sync::LazyLock;
 use std::thread::Builder;
 
-/// Makings and signings that were published.
+/// Makings and signings from outside.
 const LINES: &str = include_str!("../../oracle/vectors/signer.txt");
 /// The stack that the documentation names for making a key and for signing.
 const STACK: usize = 256 * 1_024;
 /// Where the next leaf stands in a stored signer.
 const NEXT: std::ops::Range<usize> = 88..92;
 
-/// The published signer, fresh: a key making takes seconds, so all tests share it.
+/// The given signer, fresh: a key making takes seconds, so all tests share it.
 static MADE: LazyLock<Vec<u8>> = LazyLock::new(|| {
     let [_, seed, identifier, ..] = words(LINES.lines().nth(2).unwrap())[..] else {
         panic!("no key making");
@@ -21,7 +21,7 @@ static MADE: LazyLock<Vec<u8>> = LazyLock::new(|| {
     made.join().unwrap().unwrap().as_bytes().to_vec()
 });
 
-/// The published signer with this next leaf.
+/// The given signer with this next leaf.
 fn signer(next: u32) -> Signer {
     let mut stored = MADE.clone();
     stored[NEXT].copy_from_slice(&next.to_ne_bytes());
@@ -45,7 +45,7 @@ fn number<T>(answer: &Result<T, Refusal>) -> u8 {
 }
 
 #[test]
-fn published_makings() {
+fn given_makings() {
     let lines = LINES.lines().filter(|line| line.starts_with("make "));
     assert_eq!(lines.clone().count(), 4);
     for words in lines.map(words) {
@@ -74,7 +74,7 @@ fn signs(signer: &mut Signer, words: &[&str]) {
 }
 
 #[test]
-fn published_signings() {
+fn given_signings() {
     let mut signer = signer(0);
     let mut signings = 0;
     for words in LINES.lines().map(words) {

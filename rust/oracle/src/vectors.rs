@@ -1,4 +1,4 @@
-//! The published vectors.
+//! The vectors: published ones, and others from outside.
 mod journals;
 mod lms;
 mod sha256;

@@ -27,9 +27,10 @@ pub fn case(rng: &mut Rng, world: &mut World) -> Outcome {
     }
     let leaves = rng.pick(&[[0, 1], [LEAVES - 2, LEAVES - 1]]);
     let signer = Signer::with_leaves(rng.array(), rng.array(), &leaves);
-    passing(Till::fresh(&signer), leaves[0], rng, &mut world.tally)?;
-    let made = made(world)?;
-    passing(made, rng.pick(&LEFT), rng, &mut world.tally)
+    let fresh = Tills::new(Till::fresh(&signer));
+    passing(fresh.at(leaves[0]), rng, &mut world.tally)?;
+    let made = made(world)?.at(rng.pick(&LEFT));
+    passing(made, rng, &mut world.tally)
 }
 
 /// A signer with any values but for its next leaf.
@@ -42,21 +43,22 @@ fn wild(rng: &mut Rng, next: u32) -> Till {
     }
 }
 
-/// The key that library and oracle made, once in a run.
-fn made(world: &mut World) -> Result<Till, String> {
-    if let Some(made) = &world.made {
-        return Ok(made.clone());
-    }
-    let mut tills = Tills::new(wild(&mut Rng::new(0), LEAVES));
-    let (seed, identifier) = (digest(b"seed"), [0x1d; 16]);
-    tills.make(&seed, &identifier, &mut world.tally)?;
-    world.made = Some(tills.oracle.clone());
-    Ok(tills.oracle)
+/// The key that library and oracle made, each its own, once in a run.
+fn made(world: &mut World) -> Result<&Tills, String> {
+    let made = match world.made.take() {
+        Some(made) => made,
+        None => {
+            let mut tills = Tills::new(wild(&mut Rng::new(0), LEAVES));
+            let (seed, identifier) = (digest(b"seed"), [0x1d; 16]);
+            tills.make(&seed, &identifier, &mut world.tally)?;
+            tills
+        }
+    };
+    Ok(world.made.insert(made))
 }
 
-/// Signings from this leaf on, whose signatures both checks pass, and none with one bit turned over.
-fn passing(till: Till, next: u32, rng: &mut Rng, tally: &mut Tally) -> Outcome {
-    let mut tills = Tills::new(Till { next, ..till });
+/// Signings whose signatures both checks pass, and none with one bit turned over.
+fn passing(mut tills: Tills, rng: &mut Rng, tally: &mut Tally) -> Outcome {
     for signed in signings(&mut tills, rng, tally)? {
         verdict(&signed, true, tally)?;
         for (kind, part) in SPOILT {

@@ -10,7 +10,7 @@ use lib.ListN.{length, take}
 use Rattle.wire.specs.Numbers.{bytes}
 use Rattle.sha256.specs.Digest.{sha256}
 use Rattle.lms.specs.declared.one_time.Walked.{Walked}
-use Rattle.lms.specs.OneTime.{deficit, digits, endOf, keyOfEnds, leafKey, stepCount}
+use Rattle.lms.specs.OneTime.{deficit, endOf, keyOfEnds, leafKey, stepCount}
 use Rattle.lms.specs.Rows.{row}
 use Rattle.lms.specs.Walked.{chainStart, Fed}
 use Rattle.lms.proofs.Laws.{deficit-more, start-identifier, none-fed}

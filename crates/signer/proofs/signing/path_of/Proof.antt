@@ -8,25 +8,25 @@ use mathlib.Core.Path.{_≡_, refl, ap, sym, _∙_}
 use mathlib.Core.Bool.{Bool, true, false}
 use mathlib.Core.List.{List, []}
 use lib.Dec.{eqb}
-use lib.ListN.{length, getD, set, length-set}
+use lib.ListN.{length, set, length-set}
 use lib.Seq.{getD-set-same, getD-set-other}
 use Rattle.wire.proofs.Laws.{length-of-map}
 use Rattle.lms.proofs.Climbing.{half}
 use Rattle.signer.specs.declared.state.Node.{Node}
-use Rattle.signer.specs.Signature.{siblingOf, valueAt, pathOf}
+use Rattle.signer.specs.Signature.{siblingOf, nodeValue, pathOf}
 use Rattle.signer.proofs.signing.path_of.Statement.{statement}
 use Rattle.signer.proofs.signing.path_of.Tie as tie
 
 -- The first i nodes of the path stand in their places.
 abbrev Found : List Node → ℕ → List Node → ℕ → Type 0
-Found nodes q path i = (k : ℕ) → k < i → valueAt path k ≡ pathOf nodes q k
+Found nodes q path i = (k : ℕ) → k < i → nodeValue path k ≡ pathOf nodes q k
 
 found : (nodes path : List Node) (q i : ℕ) (x : Node) → i < length path → x .value ≡ pathOf nodes q i → Found nodes q path i → Found nodes q (set path i x) (i + 1)
 found nodes path q i x h e before k l = go (eqb k i) refl where
-  go : (b : Bool) → eqb k i ≡ b → valueAt (set path i x) k ≡ pathOf nodes q k
+  go : (b : Bool) → eqb k i ≡ b → nodeValue (set path i x) k ≡ pathOf nodes q k
   go true z =
       let s : k ≡ i = eqb-true k i z in
-      ap (valueAt (set path i x)) s ∙ ap (λ (n : Node). n .value) (getD-set-same path i x (record { value = [] }) h) ∙ e ∙ ap (pathOf nodes q) (sym s)
+      ap (nodeValue (set path i x)) s ∙ ap (λ (n : Node). n .value) (getD-set-same path i x (record { value = [] }) h) ∙ e ∙ ap (pathOf nodes q) (sym s)
   go false z =
       ap (λ (n : Node). n .value) (getD-set-other path i k x (record { value = [] }) (eqb-false k i z)) ∙ before k (omega (arith, eqb-false k i z))
 
@@ -48,7 +48,7 @@ loop-again c =
     let at-loop = read .before .before in
     let l = at-loop .loop in
     let s = at-loop .before .args .t1 in
-    let e = ap (valueAt (s .nodes)) (read .sibling .ensures .0 ∙ ap siblingOf (l .inv .3)) in (
+    let e = ap (nodeValue (s .nodes)) (read .sibling .ensures .0 ∙ ap siblingOf (l .inv .3)) in (
       l .inv .0,
       length-set (l .path) (l .i) _ ∙ l .inv .1,
       omega arith,

@@ -1,5 +1,5 @@
 -- The parts of a signature, put together.
-use Prim.Native.Nat.{ℕ, _+_, _<_}
+use Prim.Native.Nat.{ℕ, _<_}
 use native.Mathlib.Omega.{arith}
 use borrow.Author.Needs.{needs}
 use borrow.Kind.Array.{eInt, good-length}
@@ -13,7 +13,7 @@ use Rattle.lms.specs.Layout.{identifier}
 use Rattle.lms.specs.OneTime.{messageHash, digits}
 use Rattle.signer.specs.declared.state.Node.{Node}
 use Rattle.lms.specs.Rows.{row}
-use Rattle.signer.specs.Signature.{valueAt, pathOf, signedString, signatureOf}
+use Rattle.signer.specs.Signature.{nodeValue, pathOf, signedString, signatureOf}
 use Rattle.signer.proofs.Chains.{string-length}
 use Rattle.signer.proofs.Parts.{bytes-length, row-length, row-same, put-on}
 use Rattle.signer.proofs.signing.signature_by.Statement.{statement}
@@ -22,8 +22,8 @@ use Rattle.signer.proofs.signing.signature_by.Tie as tie
 together : (seed key C message I Q ds begun s six t r : List ℕ) (path nodes : List Node) (q : ℕ) → length C ≡ 32 → I ≡ identifier key → Q ≡ messageHash I q C message
     → ds ≡ digits Q → begun ≡ bytes 4 q ++ bytes 4 4 ++ C ++ replicate 1412 0
     → ((a : List ℕ) → length a ≡ 40 → begun ≡ a ++ replicate 1412 0 → s ≡ a ++ row (signedString seed I q ds) 34 ++ replicate 324 0) → six ≡ bytes 4 6
-    → t ≡ paste s 1128 six (length six) → ((a : List ℕ) → length a ≡ 1132 → t ≡ a ++ replicate 320 0 → r ≡ a ++ row (valueAt path) 10)
-    → ((i : ℕ) → i < 10 → valueAt path i ≡ pathOf nodes q i)
+    → t ≡ paste s 1128 six (length six) → ((a : List ℕ) → length a ≡ 1132 → t ≡ a ++ replicate 320 0 → r ≡ a ++ row (nodeValue path) 10)
+    → ((i : ℕ) → i < 10 → nodeValue path i ≡ pathOf nodes q i)
     → r ≡ signatureOf seed (identifier key) nodes q C message
 unfolding signatureOf
 together seed key C message I Q ds begun s six t r path nodes q lC eI eQ ed eb fs e₆ et fr same =
@@ -37,7 +37,7 @@ together seed key C message I Q ds begun s six t r path nodes q lC eI eQ ed eb f
     let l : length (a ++ S ++ six) ≡ 1132 = length-append (a ++ S) six ∙ omega arith in
     let w : t ≡ a ++ S ++ six ++ replicate 320 0 = put-on (a ++ S) six s t 1128 4 320 (fs a la eb) et lS l₆ in
     fr (a ++ S ++ six) l w
-    ∙ ap (λ (x : List ℕ). a ++ S ++ six ++ x) (row-same (valueAt path) (pathOf nodes q) 10 same)
+    ∙ ap (λ (x : List ℕ). a ++ S ++ six ++ x) (row-same (nodeValue path) (pathOf nodes q) 10 same)
     ∙ ap (λ (x : List ℕ). a ++ S ++ x ++ row (pathOf nodes q) 10) e₆
     ∙ ap (λ (x : List ℕ). a ++ row (signedString seed I q x) 34 ++ bytes 4 6 ++ row (pathOf nodes q) 10) (ed ∙ ap digits eQ)
     ∙ ap (λ (J : List ℕ). a ++ row (signedString seed J q (digits (messageHash J q C message))) 34 ++ bytes 4 6 ++ row (pathOf nodes q) 10) eI

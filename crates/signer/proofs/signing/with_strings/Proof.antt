@@ -4,7 +4,7 @@ use native.Mathlib.Omega.{arith}
 use borrow.Author.Needs.{needs}
 use borrow.Kind.Array.{eInt, good-length}
 use mir.Syntax.{w8}
-use mathlib.Core.Path.{_≡_, refl, ap, sym, _∙_}
+use mathlib.Core.Path.{_≡_, ap, _∙_}
 use mathlib.Core.List.{List, _++_}
 use lib.ListN.{length, replicate, getD}
 use lib.Seq.{length-paste}
@@ -15,11 +15,6 @@ use Rattle.signer.proofs.Chains.{string-length}
 use Rattle.signer.proofs.Parts.{Writing, writing-none, writing-more}
 use Rattle.signer.proofs.signing.with_strings.Statement.{statement}
 use Rattle.signer.proofs.signing.with_strings.Tie as tie
-use Rattle.signer.proofs.signing.with_strings.Reads as reads
-use Rattle.signer.proofs.signing.with_strings.Lts as lts
-use Rattle.lms.proofs.chain_start.Reads as chain-start-reads
-use Rattle.signer.proofs.strings.chain_string.Reads as chain-string-reads
-use Rattle.wire.proofs.copy_into.Reads as copy-into-reads
 
 abbrev Inv-loop : tie.InvT-loop
 Inv-loop leaf seed digits start signature₀ i₀ signature i =

@@ -1,7 +1,7 @@
 -- After i turns the state is that of I, q, 8080 and the ends of the first i chains. The identifier is the front of what the chains start with.
 use Prim.Native.Nat.{ℕ, _-_, _≤_}
 use native.Mathlib.Omega.{arith}
-use mathlib.Core.Path.{_≡_, refl, ap, sym, subst, _∙_}
+use mathlib.Core.Path.{_≡_, ap, sym, subst, _∙_}
 use mathlib.Core.List.{List, _++_}
 use borrow.Author.Needs.{needs}
 use borrow.Kind.Array.{eInt, good-length}
