@@ -3,24 +3,14 @@
 // answers and lines; a difference ends the run with status 1.
 #include "book.h"
 #include "copied.h"
+#include "timing.h"
 #include <stdio.h>
 #include <stdlib.h>
 #include <string.h>
-#include <time.h>
 
 enum { COUNT = 200, TRIES = 100, PASSES = 16 };
 
 static struct finaruvom_book full;
-
-static double seconds(void) {
-    struct timespec t;
-    clock_gettime(CLOCK_MONOTONIC, &t);
-    return t.tv_sec + 1e-9 * t.tv_nsec;
-}
-
-static double least(double a, double b) {
-    return a < b ? a : b;
-}
 
 typedef struct finaruvom_answer apply(struct finaruvom_book *, const uint8_t *, size_t);
 struct row {

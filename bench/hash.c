@@ -1,10 +1,10 @@
 // Times the library's hash beside the baselines in one run: ns for a block and for a 55-byte message, and ratios to the unrolled C.
 // Every digest of the run is compared; a difference ends it with status 1.
 #include "../include/finaruvom.h"
+#include "timing.h"
 #include <stdio.h>
 #include <stdlib.h>
 #include <string.h>
-#include <time.h>
 #ifdef OPENSSL
 #include <openssl/sha.h>
 #endif
@@ -40,12 +40,6 @@ enum { ROWS = sizeof rows / sizeof rows[0], LONG = 65536, SHORT = 55, LONGS = 1,
 
 static uint8_t message[LONG];
 static uint8_t digests[ROWS][SHORTS + LONGS][32];
-
-static double seconds(void) {
-    struct timespec t;
-    clock_gettime(CLOCK_MONOTONIC, &t);
-    return t.tv_sec + 1e-9 * t.tv_nsec;
-}
 
 // The time of one call: count messages of n bytes, each made of the digest before it.
 static double timed(int row, size_t n, int count, uint8_t (*out)[32]) {

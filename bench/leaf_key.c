@@ -1,9 +1,9 @@
 // Times the leaf key of a one-time signature at the most and at the fewest chain steps, beside the C baseline and as many bare
 // compressions, in one run. Every leaf key of the run is compared; a difference ends it with status 1.
+#include "timing.h"
 #include <stdint.h>
 #include <stdio.h>
 #include <string.h>
-#include <time.h>
 
 uint32_t bench_leaf_key(const uint8_t id[16], uint32_t leaf, const uint8_t hash[32], const uint8_t *signature, size_t n, uint8_t key[32]);
 void c_leaf_key(const uint8_t id[16], uint32_t leaf, const uint8_t hash[32], const uint8_t *signature, uint8_t out[32], uint32_t *steps);
@@ -12,16 +12,6 @@ void c_compressions(uint32_t h[8], const uint8_t block[64], int count);
 enum { SIGNATURE = 1452, TRIES = 300 };
 
 static uint8_t id[16], hash[32], signature[SIGNATURE], key[32], c_key[32];
-
-static double seconds(void) {
-    struct timespec t;
-    clock_gettime(CLOCK_MONOTONIC, &t);
-    return t.tv_sec + 1e-9 * t.tv_nsec;
-}
-
-static double least(double a, double b) {
-    return a < b ? a : b;
-}
 
 struct times {
     double bare, in_c, library;

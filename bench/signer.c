@@ -1,8 +1,8 @@
 // Times key making and signing beside as many bare compressions in C, in one run. Every signature of the run must pass the check under the key that was
 // made; one that does not ends it with status 1.
 #include "../include/finaruvom.h"
+#include "timing.h"
 #include <stdio.h>
-#include <time.h>
 
 void c_compressions(uint32_t h[8], const uint8_t block[64], int count);
 
@@ -14,16 +14,6 @@ enum { OTHERS = CHAINS + 3 };
 
 static struct finaruvom_signer signer;
 static uint8_t seed[FINARUVOM_SEED_SIZE], id[FINARUVOM_ID_SIZE], nonce[FINARUVOM_NONCE_SIZE], message[100];
-
-static double seconds(void) {
-    struct timespec t;
-    clock_gettime(CLOCK_MONOTONIC, &t);
-    return t.tv_sec + 1e-9 * t.tv_nsec;
-}
-
-static double least(double a, double b) {
-    return a < b ? a : b;
-}
 
 // The time of so many bare compressions.
 static double bare(int count) {
