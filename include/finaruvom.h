@@ -293,7 +293,7 @@ FINARUVOM_CALL struct finaruvom_ran finaruvom_run(struct finaruvom_book *book, c
 // Duties: signer not null, aligned, alone; seed, id not null, shared; stack FINARUVOM_STACK_MAKE_KEY.
 FINARUVOM_CALL uint32_t finaruvom_make_key(struct finaruvom_signer *signer, const uint8_t *seed, size_t seed_n, const uint8_t *id, size_t id_n);
 
-// Signs a message with the signer's next leaf and the RFC's C, 32 bytes taken at random for each signature, and moves the signer to the leaf behind. A C of
+// Signs a message with the signer's next leaf and the RFC's C, 32 bytes taken at random for each signature, and moves the signer to the leaf after it. A C of
 // another length or a message of more than FINARUVOM_LONGEST_MESSAGE bytes gives 2, then no leaf left 15, and the signer keeps every value. It is written
 // also where it is refused, with what stood there.
 // Duties: signer not null, aligned, alone; nonce, message not null, shared; stack FINARUVOM_STACK_SIGN.

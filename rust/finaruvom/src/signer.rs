@@ -75,7 +75,7 @@ impl Signer {
     }
 
     /// The signature of a message by the next leaf, with the RFC's C as nonce. The signer moves to
-    /// the leaf behind: store it before the signature leaves the till.
+    /// the leaf after it: store it before the signature leaves the till.
     ///
     /// # Errors
     ///

@@ -59,7 +59,7 @@ impl Till {
         }
     }
 
-    /// Signs a message with the next leaf and the string C, and moves to the leaf behind; a wrong
+    /// Signs a message with the next leaf and the string C, and moves to the one after it; a wrong
     /// length gives 2, then no leaf left 15.
     pub fn sign(&mut self, c: &[u8], message: &[u8]) -> Signed {
         let refused = |refusal| Signed {

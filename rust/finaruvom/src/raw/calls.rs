@@ -140,7 +140,7 @@ extern "C" {
         id_n: usize,
     ) -> u32;
 
-    /// Signs a message with the next leaf and moves to the leaf behind, or refuses.
+    /// Signs a message with the next leaf and moves to the one after it, or refuses.
     ///
     /// # Safety
     ///
