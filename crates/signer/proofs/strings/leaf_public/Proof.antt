@@ -1,5 +1,5 @@
 -- After i turns the state is that of I, q, 8080 and the ends of the first i chains. The identifier is the front of what the chains start with.
-use Prim.Native.Nat.{ℕ, _-_, _≤_}
+use Prim.Native.Nat.{ℕ, _+_, _-_, _≤_}
 use native.Mathlib.Omega.{arith}
 use mathlib.Core.Path.{_≡_, ap, sym, subst, _∙_}
 use mathlib.Core.List.{List, _++_}
@@ -43,8 +43,10 @@ loop-again c =
     let length-id = good-length (eInt w8) 16 (a .id) _ (entry .good .0) in
     let same = start-identifier (a .id) _ (a .leaf) length-id (at-start .chain-start .ensures) in
     let start = at-start .chain-start .ensures ∙ ap (λ (I : List ℕ). chainStart I (a .leaf)) same in
+    let next : l .i + 1 ≤ 34 = omega arith in
+    let size : length (ended .chain-string .result) ≡ 32 = omega arith in
     let end = ended .chain-string .ensures _ (a .leaf) (sym (ap length same) ∙ length-id) start in
-    (omega arith, more-fed _ (a .leaf) (fullEnd (a .seed) _ (a .leaf)) _ (l .i) _ _ end (l .inv .1) (omega arith) (c .feed .ensures))
+    (next, more-fed _ (a .leaf) (fullEnd (a .seed) _ (a .leaf)) _ (l .i) _ _ end (l .inv .1) size (c .feed .ensures))
 
 returns : tie.Need-returns Inv-loop μ-loop
 unfolding leafPublic keyOfEnds
