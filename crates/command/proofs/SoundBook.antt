@@ -12,7 +12,7 @@ use lib.Seq.{take-all}
 use Rattle.machine.specs.Book.{limit, theMark, soundChannel, all, soundSetup, sound, channel, noChannel}
 use Rattle.machine.specs.declared.state.Channel.{Channel}
 use Rattle.machine.specs.declared.state.Book.{Book}
-use Rattle.machine.proofs.Laws.{and-both}
+use Rattle.wire.proofs.Laws.{and-both}
 
 -- A test of all channels holds at any place: past the end the default stands in.
 all-at : (p : Channel → Bool) (l : List Channel) (i : ℕ) (d : Channel) → p d ≡ true → all p l ≡ true → p (getD l i d) ≡ true

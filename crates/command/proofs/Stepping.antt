@@ -20,7 +20,7 @@ use Rattle.machine.specs.declared.state.Book.{Book}
 use Rattle.machine.specs.declared.answers.Judged.{Judged}
 use Rattle.machine.specs.declared.answers.Ruled.{Ruled}
 use Rattle.command.specs.declared.steps.Clocked.{Clocked}
-use Rattle.machine.proofs.Laws.{and-both}
+use Rattle.wire.proofs.Laws.{and-both}
 use Rattle.machine.proofs.Judging.{judge-passed, judge-stop}
 
 is-clean : (j : Judged) → j .refusal ≡ 0 → j .steps ≡ 0 → j ≡ clean

@@ -12,7 +12,8 @@ use Rattle.machine.specs.Due.{sooner, soonest, Due, number, none, due, F
 use Rattle.machine.specs.declared.state.Book.{Book}
 use Rattle.machine.specs.declared.state.Channel.{Channel}
 use Rattle.machine.specs.declared.answers.Soonest.{Soonest}
-use Rattle.machine.proofs.Laws.{clash, and-both}
+use Rattle.wire.proofs.Laws.{and-both}
+use Rattle.machine.proofs.Laws.{clash}
 
 abbrev at : List Channel → ℕ → Channel
 at l i = getD l i noChannel

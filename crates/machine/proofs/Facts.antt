@@ -10,7 +10,8 @@ use Rattle.machine.specs.Book.{agreed, total, held, soundTerms, soundCha
 use Rattle.machine.specs.Ledger.{Event, deposits, sum, opcodes, member, has, closed, closings, paid, allMerchant, split}
 use Rattle.machine.specs.declared.state.Channel.{Channel}
 use Rattle.machine.specs.declared.state.Setup.{Setup}
-use Rattle.machine.proofs.Laws.{clash, and-make, or-right}
+use Rattle.wire.proofs.Laws.{and-make}
+use Rattle.machine.proofs.Laws.{clash, or-right}
 use Rattle.machine.proofs.Life.{Lacks, unclosed, unanswered, running, unmatched, unfunded, TermsOf, Live, Leaving, StageAt}
 use Rattle.machine.proofs.Moves.{fewer, lacks-none, tally-none, total-at, held-at}
 

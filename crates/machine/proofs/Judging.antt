@@ -7,7 +7,7 @@ use lib.Dec.{eqb}
 use borrow.Author.Tests.{eq-eqb, ne-eqb, eqb-true, eqb-false, not-true}
 use Rattle.machine.specs.Checks.{Check, test, signed, passed, ask, judge}
 use Rattle.machine.specs.declared.answers.Judged.{Judged}
-use Rattle.machine.proofs.Laws.{and-both}
+use Rattle.wire.proofs.Laws.{and-both}
 
 -- All the checks of a list say yes.
 abbrev pub Passed : List Check → Type 0

@@ -4,19 +4,13 @@ use mathlib.Core.Bool.{Bool, true, false, true≢false, false≢true, _&&_, _||_
 use mathlib.Core.List.{List, [], _∷_}
 use Prim.Native.Nat.{ℕ, _≤_}
 use lib.Dec.{eqb, leb}
-use borrow.Author.Tests.{eqb-true, eq-eqb, leb-true}
+use borrow.Author.Tests.{eqb-true, leb-true}
 use Rattle.wire.specs.Parts.{same}
 use Rattle.machine.specs.Book.{shortest, longest, ranged}
+use Rattle.wire.proofs.Laws.{and-both}
 
 pub clash : {x : Bool} → x ≡ true → x ≡ false → ⊥
 clash p q = true≢false (sym p ∙ q)
-
-pub and-both : (a b : Bool) → (a && b) ≡ true → (a ≡ true) × (b ≡ true)
-and-both true b h = (refl, h)
-and-both false b h = absurd (false≢true h)
-
-pub and-make : {a b : Bool} → a ≡ true → b ≡ true → (a && b) ≡ true
-and-make p q = rw (p, q)
 
 pub and-middle : (a b c : Bool) → b ≡ false → (a && b && c) ≡ false
 and-middle true b c h = rw h
@@ -37,11 +31,6 @@ or-right false b h = h
 -- What the test of a delay tells.
 pub in-range : (d : ℕ) → ranged d ≡ true → (shortest ≤ d) × (d ≤ longest)
 in-range d h = let p = and-both (leb shortest d) (leb d longest) h in (leb-true _ _ (p .0), leb-true _ _ (p .1))
-
-pub same-refl : (l : List ℕ) → same l l ≡ true
-unfolding same
-same-refl [] = refl
-same-refl (x ∷ l) = and-make (eq-eqb x x refl) (same-refl l)
 
 pub same-eq : (x y : List ℕ) → same x y ≡ true → x ≡ y
 unfolding same

@@ -16,7 +16,8 @@ use Rattle.machine.specs.declared.state.Channel.{Channel}
 use Rattle.machine.specs.declared.state.Setup.{Setup}
 use Rattle.machine.specs.declared.state.Context.{Context}
 use Rattle.machine.specs.declared.answers.Answer.{Answer}
-use Rattle.machine.proofs.Laws.{clash, and-both, in-range, or-neither, or-other, or-right}
+use Rattle.wire.proofs.Laws.{and-both}
+use Rattle.machine.proofs.Laws.{clash, in-range, or-neither, or-other, or-right}
 use Rattle.machine.proofs.Judging.{Passed}
 use Rattle.machine.proofs.Life.{Lacks, unclosed, unanswered, running, unmatched, unfunded, TermsOf, Money, Live, Waiting, Leaving, Over, StageAt, Stage}
 

@@ -6,7 +6,7 @@ use Prim.Native.Nat.{ℕ, zero, suc, _≤_}
 use native.Mathlib.Omega.{arith}
 use lib.ListN.{length, getD}
 use Rattle.machine.specs.Rules.{Plan}
-use Rattle.machine.proofs.Laws.{and-both}
+use Rattle.wire.proofs.Laws.{and-both}
 
 abbrev pub allPlans : (Plan → Bool) → List Plan → Bool
 allPlans p [] = true

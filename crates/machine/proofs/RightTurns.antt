@@ -21,7 +21,8 @@ use Rattle.machine.specs.declared.state.Channel.{Channel}
 use Rattle.machine.specs.declared.state.Context.{Context}
 use Rattle.machine.specs.declared.state.Book.{Book}
 use Rattle.machine.specs.declared.answers.Judged.{Judged}
-use Rattle.machine.proofs.Laws.{clash, and-middle, same-refl, same-ne}
+use Rattle.wire.proofs.Laws.{same-refl}
+use Rattle.machine.proofs.Laws.{clash, and-middle, same-ne}
 use Rattle.machine.proofs.Judging.{judge-stop}
 use Rattle.machine.proofs.Plans.{each-plan}
 

@@ -22,7 +22,8 @@ use Rattle.machine.specs.declared.state.Setup.{Setup}
 use Rattle.machine.specs.declared.state.Book.{Book}
 use Rattle.machine.specs.declared.answers.Judged.{Judged}
 use Rattle.machine.specs.declared.answers.Stepped.{Stepped}
-use Rattle.machine.proofs.Laws.{clash, and-both, and-make, same-refl}
+use Rattle.wire.proofs.Laws.{and-both, and-make, same-refl}
+use Rattle.machine.proofs.Laws.{clash}
 use Rattle.machine.proofs.Judging.{Passed, coded, judge-passed, passed-judge}
 use Rattle.machine.proofs.Plans.{each-plan}
 use Rattle.machine.proofs.Life.{Stage}

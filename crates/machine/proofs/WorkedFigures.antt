@@ -11,7 +11,7 @@ use Rattle.machine.specs.Rules.{establish, fundCustomer, fundMerchant, r
 use Rattle.machine.specs.Machine.{answer, concluded, ruling}
 use Rattle.machine.specs.Figures.{Figures}
 use Rattle.machine.specs.declared.state.Setup.{Setup}
-use Rattle.machine.proofs.Laws.{same-refl}
+use Rattle.wire.proofs.Laws.{same-refl}
 
 pub figures : (key other lock id : List ℕ) (d x v w : ℕ) (setup : Setup) → Figures key other lock id d x v w setup
 unfolding deficit total held readChannel ask establish fundCustomer fundMerchant reclaim mutualClose customerClose dispute settle answer concluded ruling

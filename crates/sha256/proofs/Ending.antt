@@ -9,6 +9,7 @@ use Rattle.sha256_block.specs.declared.rounds.Variables.{Variables}
 use Rattle.sha256_block.specs.Block.{compressOf}
 use Rattle.sha256.specs.declared.state.Sha256.{Sha256}
 use Rattle.wire.specs.Numbers.{bytes}
+use Rattle.wire.proofs.Laws.{bytes-length}
 use Rattle.sha256.specs.Padding.{zeros, Fewest, padding, padded}
 use Rattle.sha256.specs.Digest.{hashed, blockOf, digestOf, sha256}
 use Rattle.sha256.specs.State.{Taken}
@@ -41,10 +42,6 @@ shorter-length x k e h = length-take-le k x (omega (arith, ap length e))
 block-at : (a b c : List ℕ) (k : ℕ) → length a ≡ 64 * k → length b ≡ 64 → blockOf k ((a ++ b) ++ c) ≡ b
 block-at a b c k la lb = ap (λ (l : List ℕ). take 64 (drop (64 * k) l)) (append-assoc a b c) ∙ ap (take 64) (drop-at a (b ++ c) (64 * k) la) ∙ take-at b c 64 lb
 
-bytes-length : (x : ℕ) → length (bytes 8 x) ≡ 8
-unfolding bytes
-bytes-length x = refl
-
 -- A message with the two parts of its padding behind it.
 pub ended : (m q b : List ℕ) (n : ℕ) → n ≡ length m → q ≡ marked (zeros n) → b ≡ bytes 8 (8 * n) → m ++ (q ++ b) ≡ padded m
 unfolding padded padding
@@ -55,7 +52,7 @@ pub padded-length : (m : List ℕ) → length (padded m) ≡ length m + (zeros (
 unfolding padded padding
 padded-length m =
     let n : ℕ = length m in
-    omega (arith, length-append m (padding n), length-append (marked (zeros n)) (bytes 8 (8 * n)), marked-length (zeros n), bytes-length (8 * n))
+    omega (arith, length-append m (padding n), length-append (marked (zeros n)) (bytes 8 (8 * n)), marked-length (zeros n), bytes-length 8 (8 * n))
 
 -- One block more of a list that is given in blocks.
 next : (l a b c : List ℕ) (k : ℕ) {h v : Variables} → (a ++ b) ++ c ≡ l → length a ≡ 64 * k → length b ≡ 64 → h ≡ hashed k l → v ≡ compressOf h b → v ≡ hashed (suc k) l
@@ -80,7 +77,7 @@ one s m q b x y t small eq eb ex ey ev er =
     let lp : length p ≡ u = left s m t in
     let la : length a ≡ 64 * k = length-take-le (64 * k) m (omega arith) in
     let lq : length q ≡ 56 - u = omega (arith, ap length eq, marked-length (55 - u)) in
-    let lb : length b ≡ 8 = ap length eb ∙ bytes-length (8 * s .n) in
+    let lb : length b ≡ 8 = ap length eb ∙ bytes-length 8 (8 * s .n) in
     let lpq : length (p ++ q) ≡ 56 = omega (arith, length-append p q) in
     let k₁ : 56 ≡ u + length q = omega arith in
     let k₂ : 64 ≡ 56 + length b = omega arith in
@@ -113,7 +110,7 @@ two s m q b x y t large eq eb ex ey ew ev er =
     let lp : length p ≡ u = left s m t in
     let la : length a ≡ 64 * k = length-take-le (64 * k) m (omega arith) in
     let lq : length q ≡ 64 - u = omega (arith, ap length eq, marked-length (63 - u)) in
-    let lb : length b ≡ 8 = ap length eb ∙ bytes-length (8 * s .n) in
+    let lb : length b ≡ 8 = ap length eb ∙ bytes-length 8 (8 * s .n) in
     let lpq : length (p ++ q) ≡ 64 = omega (arith, length-append p q) in
     let lap : length (a ++ (p ++ q)) ≡ 64 * suc k = omega (arith, length-append a (p ++ q)) in
     let k₁ : 64 ≡ u + length q = omega arith in

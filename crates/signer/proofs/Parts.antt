@@ -28,12 +28,6 @@ module _ (a b : List ℕ) (at n : ℕ) where
 pub part-behind : (a b : List ℕ) (at k n : ℕ) → length a ≡ at → part (a ++ b) (at + k) n ≡ part b k n
 part-behind a b at k n la = ap (λ (j : ℕ). part (a ++ b) (j + k) n) (sym la) ∙ ap (take n) (drop-append-add a b k)
 
--- The same for numbers of four bytes.
-pub bytes-length : (n x : ℕ) → length (bytes n x) ≡ n
-unfolding bytes
-bytes-length zero x = refl
-bytes-length (suc n) x = ap suc (bytes-length n x)
-
 -- A number below 2 ^ 32 is the sum of its four bytes.
 summed : (x y z w : ℕ) → x < 2 ^ 32 → y ≡ x / 2 ^ 8 → z ≡ y / 2 ^ 8 → w ≡ z / 2 ^ 8 → w % 256 * 2 ^ 24 + z % 256 * 2 ^ 16 + y % 256 * 2 ^ 8 + x % 256 ≡ x
 summed x y z w h p q r =

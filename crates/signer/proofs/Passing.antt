@@ -3,14 +3,14 @@ use Prim.Native.Nat.{ℕ, zero, suc, _+_, _-_, _*_, _/_, _^_, _≤_, _<_}
 use native.Mathlib.Nat.{div-le-self}
 use native.Mathlib.Omega.{arith}
 use mathlib.Core.Path.{_≡_, refl, ap, sym, subst, _∙_}
-use mathlib.Core.Bool.{Bool, true, false, _&&_, false≢true}
-use mathlib.Core.List.{List, [], _∷_, _++_}
+use mathlib.Core.Bool.{Bool, true, false, false≢true}
+use mathlib.Core.List.{List, [], _++_}
 use borrow.Author.Tests.{eq-eqb, lt-ltb, le-leb}
 use lib.Dec.{leb}
 use lib.ListN.{length, getD, length-append}
 use Rattle.wire.specs.Numbers.{bytes}
 use Rattle.wire.specs.Parts.{part, same}
-use Rattle.wire.proofs.Laws.{u32-front}
+use Rattle.wire.proofs.Laws.{and-make, same-refl, bytes-length, u32-front}
 use Rattle.lms.specs.declared.Checked.{Checked}
 use Rattle.lms.specs.Layout.{identifier, root, leaf, oneTimeType, nonce, string, treeType, path, keyType, keyOneTimeType, wellFormed}
 use Rattle.lms.specs.OneTime.{messageHash, digits, leafKey}
@@ -20,7 +20,7 @@ use Rattle.lms.specs.Rows.{row}
 use Rattle.signer.specs.Strings.{stringOf, leafPublic}
 use Rattle.signer.specs.Nodes.{T, nodesOf, keyOf}
 use Rattle.signer.specs.Signature.{siblingOf, pathOf, signedString, signatureOf}
-use Rattle.signer.proofs.Parts.{part-last, part-front, part-behind, bytes-length, u32-last, row-length, row-part}
+use Rattle.signer.proofs.Parts.{part-last, part-front, part-behind, u32-last, row-length, row-part}
 use Rattle.signer.proofs.Chains.{string-length, small-digits, key-full}
 use Rattle.signer.proofs.Tree.{below-top, sibling-low, sibling-high, T-length, T-eq, leaf-alone, climb-root, kept-at, kept-length}
 
@@ -139,14 +139,6 @@ module _ (seed I : List ℕ) (lI : length I ≡ 16) where
 
 -- ---- the check
 
-both : {a b : Bool} → a ≡ true → b ≡ true → (a && b) ≡ true
-both p q = cc
-
-same-refl : (l : List ℕ) → same l l ≡ true
-unfolding same
-same-refl [] = refl
-same-refl (x ∷ l) = both (eq-eqb x x refl) (same-refl l)
-
 yes : (a b : Bool) (v : Checked) → a ≡ true → b ≡ true → v .verdict ≡ true → (checkedBy a b v) .verdict ≡ true
 yes true true v p q r = r
 yes true false v p q r = absurd (false≢true q)
@@ -198,11 +190,11 @@ module _ (seed I C message : List ℕ) (q : ℕ) (lI : length I ≡ 16) (lC : le
   formed : wellFormed key signature ≡ true
   unfolding wellFormed
   formed =
-      both
-      (both (eq-eqb _ _ (key-size seed I lI)) (eq-eqb _ _ (size C S P q lC lS lP)))
-      (both
-      (both
-      (both (both (eq-eqb _ _ (key-type seed I lI)) (eq-eqb _ _ (key-one-time seed I lI))) (eq-eqb _ _ (type-at C S P q lC lS lP)))
+      and-make
+      (and-make (eq-eqb _ _ (key-size seed I lI)) (eq-eqb _ _ (size C S P q lC lS lP)))
+      (and-make
+      (and-make
+      (and-make (and-make (eq-eqb _ _ (key-type seed I lI)) (eq-eqb _ _ (key-one-time seed I lI))) (eq-eqb _ _ (type-at C S P q lC lS lP)))
       (eq-eqb _ _ (one-time-at C S P q lC lS lP)))
       (lt-ltb _ _ (subst (λ (k : ℕ). k < 1024) (sym the-leaf) inside)))
 

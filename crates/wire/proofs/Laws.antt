@@ -3,17 +3,31 @@ use Prim.Native.Nat.{ℕ, suc, zero, _+_, _-_, _*_, _^_, _≤_, _<_}
 use native.Mathlib.Nat.{add-sub-cancel-left}
 use native.Mathlib.Omega.{arith}
 use mathlib.Core.Path.{_≡_, refl, sym, ap, _∙_}
-use mathlib.Core.Bool.{Bool, true, _&&_, and-true, and-assoc}
+use mathlib.Core.Bool.{Bool, true, false, false≢true, _&&_, and-true, and-assoc}
 use mathlib.Core.List.{List, [], _∷_, _++_, append-nil, map}
 use lib.Dec.{eqb}
+use borrow.Author.Tests.{eq-eqb}
 use lib.ListN.{length, take, getD, drop-of-length-le, length-take, length-drop, length-map, List·getD-append}
 use lib.Seq.{paste, take-length, getD-append-add}
-use Rattle.wire.specs.Numbers.{u32At}
+use Rattle.wire.specs.Numbers.{bytes, u32At}
 use Rattle.wire.specs.Parts.{part, same}
 
 -- Two lists, head and tail.
 pub both : {x y : ℕ} {xs ys : List ℕ} → x ≡ y → xs ≡ ys → x ∷ xs ≡ y ∷ ys
 both p q = cc
+
+-- Two tests that both say yes, and what they say.
+pub and-both : (a b : Bool) → (a && b) ≡ true → (a ≡ true) × (b ≡ true)
+and-both true b h = (refl, h)
+and-both false b h = absurd (false≢true h)
+
+pub and-make : {a b : Bool} → a ≡ true → b ≡ true → (a && b) ≡ true
+and-make p q = rw (p, q)
+
+pub same-refl : (l : List ℕ) → same l l ≡ true
+unfolding same
+same-refl [] = refl
+same-refl (x ∷ l) = and-make (eq-eqb x x refl) (same-refl l)
 
 pub same-none : (a b : List ℕ) → true ≡ same (take 0 a) (take 0 b)
 unfolding same
@@ -43,6 +57,12 @@ copied-part d s at n e h = rw add-sub-cancel-left (paste-whole d (part s at n) (
 -- An array of structs: what owning it tells is of the machine's values.
 pub length-of-map : (X Y : Type 0) (f : X → Y) (l : List X) (n : ℕ) → length (map f l) ≡ n → length l ≡ n
 length-of-map X Y f l n e = sym (length-map l f) ∙ e
+
+-- A number in n bytes.
+pub bytes-length : (n x : ℕ) → length (bytes n x) ≡ n
+unfolding bytes
+bytes-length zero x = refl
+bytes-length (suc n) x = ap suc (bytes-length n x)
 
 -- Numbers of four bytes, byte by byte.
 pub four : (a b c d a′ b′ c′ d′ : ℕ) → a ≡ a′ → b ≡ b′ → c ≡ c′ → d ≡ d′ → a * 2 ^ 24 + b * 2 ^ 16 + c * 2 ^ 8 + d ≡ a′ * 2 ^ 24 + b′ * 2 ^ 16 + c′ * 2 ^ 8 + d′

@@ -1,24 +1,17 @@
 -- The limit of the message, the forms of key and signature, and then the check itself.
-use mathlib.Core.Bool.{Bool, true, false, _&&_, false≢true}
-use mathlib.Core.Path.{_≡_, refl, sym, _∙_}
+use mathlib.Core.Bool.{true, _&&_}
+use mathlib.Core.Path.{_≡_, sym, _∙_}
 use mathlib.Core.List.{List}
 use Prim.Native.Nat.{ℕ}
 use borrow.Author.Needs.{needs}
 use borrow.Author.Tests.{le-leb, lt-leb, eqb-true, ltb-true}
 use lib.Dec.{eqb, ltb}
 use lib.ListN.{length}
+use Rattle.wire.proofs.Laws.{and-both}
 use Rattle.lms.specs.Layout.{keyType, keyOneTimeType, leaf, oneTimeType, treeType, rightTypes, wellFormed}
 use Rattle.lms.specs.Check.{Formed, checkOf}
 use Rattle.lms.proofs.check.Statement.{statement}
 use Rattle.lms.proofs.check.Tie as tie
-
-first : (a b : Bool) → (a && b) ≡ true → a ≡ true
-first true b h = refl
-first false b h = h
-
-second : (a b : Bool) → (a && b) ≡ true → b ≡ true
-second true b h = h
-second false b h = absurd (false≢true h)
 
 -- What a well-formed key and signature are like.
 formed : (key signature : List ℕ) → wellFormed key signature ≡ true → (length key ≡ 56) × Formed signature
@@ -27,9 +20,9 @@ formed key signature h =
     let k = eqb (length key) 56 in
     let s = eqb (length signature) 1452 in
     let types = eqb (keyType key) 6 && eqb (keyOneTimeType key) 4 && eqb (treeType signature) 6 && eqb (oneTimeType signature) 4 in
-    let lengths = first (k && s) (rightTypes key signature) h in
-    let inside = second types (ltb (leaf signature) 1024) (second (k && s) (rightTypes key signature) h) in
-    (eqb-true _ _ (first k s lengths), record { size = eqb-true _ _ (second k s lengths); inside = ltb-true _ _ inside })
+    let lengths = (and-both (k && s) (rightTypes key signature) h) .0 in
+    let inside = (and-both types (ltb (leaf signature) 1024) ((and-both (k && s) (rightTypes key signature) h) .1)) .1 in
+    (eqb-true _ _ ((and-both k s lengths) .0), record { size = eqb-true _ _ ((and-both k s lengths) .1); inside = ltb-true _ _ inside })
 
 returns : tie.Need-returns
 unfolding checkOf

@@ -15,7 +15,8 @@ use Rattle.signer.specs.declared.state.Node.{Node}
 use Rattle.lms.specs.Rows.{row}
 use Rattle.signer.specs.Signature.{nodeValue, pathOf, signedString, signatureOf}
 use Rattle.signer.proofs.Chains.{string-length}
-use Rattle.signer.proofs.Parts.{bytes-length, row-length, row-same, put-on}
+use Rattle.wire.proofs.Laws.{bytes-length}
+use Rattle.signer.proofs.Parts.{row-length, row-same, put-on}
 use Rattle.signer.proofs.signing.signature_by.Statement.{statement}
 use Rattle.signer.proofs.signing.signature_by.Tie as tie
 
