@@ -5,6 +5,7 @@ use holdings::delay_fits;
 use machine::Book;
 use machine::Cents;
 use machine::Channel;
+use machine::Leaves;
 use machine::MARK;
 use machine::Opened;
 use machine::Party;
@@ -35,6 +36,10 @@ fn unused_channel() -> Channel
         delay: 0,
         status: 0,
         lock: [0u8; 32],
+        leaves: Leaves {
+            first: 0,
+            second: 0,
+        },
     }
 }
 

@@ -2,12 +2,14 @@
 use crate::judging::tested;
 use lms::check;
 use machine::Judged;
+use machine::Sealed;
 use wire::copy_into;
 ghost use mathlib.Core.Path.{_≡_};
+ghost use mathlib.Core.Bool.{cond};
 ghost use Prim.Native.Nat.{_+_, _≤_};
 ghost use lib.ListN.{length, take};
 ghost use Rattle.machine.specs.Format.{message};
-ghost use Rattle.machine.specs.Checks.{signed, ask};
+ghost use Rattle.machine.specs.Checks.{signed, passed, ask};
 ghost use Rattle.machine.specs.Machine.{verdict};
 ghost use Rattle.machine.specs.Real.{lmsVerdict};
 
@@ -23,7 +25,7 @@ fn signed_message(id: [u8; 16], command: &[u8], end: usize) -> [u8; 67]
     buffer
 }
 
-// Is the signature at `at` good for the key and the signed message, whose operands end at `end`?
+// Is the signature at `at` good for the key and the signed message, whose operands end at `end`, and what is its leaf?
 pub fn signature_tested(
     j: Judged,
     refusal: u32,
@@ -32,13 +34,17 @@ pub fn signature_tested(
     command: &[u8],
     end: usize,
     at: usize,
-) -> Judged
+) -> Sealed
     requires { ⌜ (j .steps ≤ 8415) × (3 ≤ end) × (end ≤ 51) × (end ≤ at) × (at + 1452 ≤ length (now command)) ⌝ }
-    ensures { λ r. ⌜ r ≡ ask j (signed refusal (verdict lmsVerdict key id (now (command .entry)) end at)) ⌝ }
-    ensures { λ r. ⌜ r .steps ≤ j .steps + 8415 ⌝ }
+    ensures { λ r. ⌜ r .judged ≡ ask j (signed refusal (verdict lmsVerdict key id (now (command .entry)) end at)) ⌝ }
+    ensures { λ r. ⌜ r .judged .steps ≤ j .steps + 8415 ⌝ }
+    ensures { λ r. ⌜ r .leaf ≡ cond (passed j) ((verdict lmsVerdict key id (now (command .entry)) end at) .leaf) 0 ⌝ }
 {
     if j.refusal != 0 {
-        return j;
+        return Sealed {
+            judged: j,
+            leaf: 0,
+        };
     }
     let buffer = signed_message(id, command, end);
     let checked = check(&key, &buffer[..end + 16], &command[at..at + 1452]);
@@ -46,5 +52,9 @@ pub fn signature_tested(
         refusal: j.refusal,
         steps: j.steps + checked.steps,
     };
-    tested(counted, refusal, checked.verdict)
+    let judged = tested(counted, refusal, checked.verdict);
+    Sealed {
+        judged,
+        leaf: checked.leaf,
+    }
 }

@@ -10,6 +10,7 @@ use holdings::total_of;
 use machine::Cents;
 use machine::Channel;
 use machine::Context;
+use machine::Leaves;
 use machine::Ruled;
 use machine::Seconds;
 use wire::digest_at;
@@ -20,8 +21,8 @@ ghost use Prim.Native.Nat.{_+_, _≤_};
 ghost use lib.ListN.{length};
 ghost use Rattle.sha256.specs.Digest.{sha256};
 ghost use Rattle.machine.specs.Format.{lock, secret, customerPart, merchantPart};
-ghost use Rattle.machine.specs.Book.{seconds, limit, soundChannel};
-ghost use Rattle.machine.specs.Rules.{mutualClose, customerClose, merchantClose, dispute, settle};
+ghost use Rattle.machine.specs.Book.{seconds, limit, remembered, soundChannel};
+ghost use Rattle.machine.specs.Rules.{mutualClose, closingLeaves, customerClose, merchantClose, dispute, settle};
 ghost use Rattle.machine.specs.Machine.{ruling, verdict};
 ghost use Rattle.machine.specs.Real.{lmsVerdict};
 
@@ -37,11 +38,19 @@ pub fn mutual_close(ch: Channel, at: Context, command: &[u8]) -> Ruled
     let merchant = Cents(u64_at(command, 11));
     let j = tested(unjudged(), 5, ch.status == 3);
     let j = tested(j, 8, sums_to(customer, merchant, total_of(ch)));
-    let j = signature_tested(j, 11, merchant_key, id, command, 19, 19);
-    let j = signature_tested(j, 12, customer_key, id, command, 19, 1471);
+    let by_merchant = signature_tested(j, 11, merchant_key, id, command, 19, 19);
+    let by_customer = signature_tested(
+        by_merchant.judged,
+        12,
+        customer_key,
+        id,
+        command,
+        19,
+        1471,
+    );
     let mut after = ch;
     after.status = 6;
-    ruled(j, ch, after, customer, merchant)
+    ruled(by_customer.judged, ch, after, customer, merchant)
 }
 
 fn deadline_from(clock: Seconds, delay: u32) -> Seconds
@@ -49,6 +58,29 @@ fn deadline_from(clock: Seconds, delay: u32) -> Seconds
     ensures { λ r. ⌜ r ≡ seconds (clock .0 + delay) ⌝ }
 {
     Seconds(clock.0 + delay as u64)
+}
+
+// The leaves that a 07 with this one leaves remembered: that of the 08 which it answers, if any, and its own.
+fn closing_leaves(ch: Channel, leaf: u32) -> Leaves
+    ensures { λ r. ⌜ r ≡ closingLeaves leaf ch ⌝ }
+{
+    if ch.status == 3 {
+        Leaves {
+            first: leaf,
+            second: leaf,
+        }
+    } else {
+        Leaves {
+            first: ch.leaves.first,
+            second: leaf,
+        }
+    }
+}
+
+fn is_remembered(ch: Channel, leaf: u32) -> bool
+    ensures { λ r. ⌜ r ≡ remembered leaf ch ⌝ }
+{
+    (leaf == ch.leaves.first) | (leaf == ch.leaves.second)
 }
 
 // 07
@@ -64,16 +96,26 @@ pub fn customer_close(ch: Channel, at: Context, command: &[u8]) -> Ruled
     let j = tested(unjudged(), 5, (ch.status == 3) | (ch.status == 4));
     let j = tested(j, 8, sums_to(customer, merchant, total_of(ch)));
     let j = tested(j, 9, (ch.status == 3) | (at.clock.0 < ch.deadline.0));
-    let j = signature_tested(j, 11, merchant_key, id, command, 51, 51);
-    let j = signature_tested(j, 12, customer_key, id, command, 51, 1503);
+    let by_merchant = signature_tested(j, 11, merchant_key, id, command, 51, 51);
+    let by_customer = signature_tested(
+        by_merchant.judged,
+        12,
+        customer_key,
+        id,
+        command,
+        51,
+        1503,
+    );
     let lock = digest_at(command, 3);
     let deadline = deadline_from(at.clock, ch.delay);
+    let leaves = closing_leaves(ch, by_merchant.leaf);
     let mut after = ch;
     after.status = 5;
     after.deadline = deadline;
     after.kept = customer;
     after.lock = lock;
-    ruled(j, ch, after, Cents(0), merchant)
+    after.leaves = leaves;
+    ruled(by_customer.judged, ch, after, Cents(0), merchant)
 }
 
 // 08
@@ -84,12 +126,17 @@ pub fn merchant_close(ch: Channel, at: Context, command: &[u8]) -> Ruled
     let key = ch.merchant.key;
     let id = at.id;
     let j = tested(unjudged(), 5, ch.status == 3);
-    let j = signature_tested(j, 11, key, id, command, 3, 3);
+    let by_merchant = signature_tested(j, 11, key, id, command, 3, 3);
     let deadline = deadline_from(at.clock, ch.delay);
+    let leaves = Leaves {
+        first: by_merchant.leaf,
+        second: by_merchant.leaf,
+    };
     let mut after = ch;
     after.status = 4;
     after.deadline = deadline;
-    ruled(j, ch, after, Cents(0), Cents(0))
+    after.leaves = leaves;
+    ruled(by_merchant.judged, ch, after, Cents(0), Cents(0))
 }
 
 // 09
@@ -103,7 +150,8 @@ pub fn dispute(ch: Channel, at: Context, command: &[u8]) -> Ruled
     let j = tested(unjudged(), 5, ch.status == 5);
     let j = tested(j, 9, at.clock.0 < ch.deadline.0);
     let j = secret_tested(j, lock, command);
-    let j = signature_tested(j, 11, key, id, command, 35, 35);
+    let by_merchant = signature_tested(j, 11, key, id, command, 35, 35);
+    let j = tested(by_merchant.judged, 16, !is_remembered(ch, by_merchant.leaf));
     let mut after = ch;
     after.status = 6;
     ruled(j, ch, after, Cents(0), ch.kept)

@@ -37,7 +37,7 @@ pub extern "C" fn finaruvom_version() -> Version
 {
     Version {
         major: 0,
-        minor: 13,
+        minor: 14,
         patch: 0,
         layout: LAYOUT,
     }
@@ -45,7 +45,7 @@ pub extern "C" fn finaruvom_version() -> Version
 
 // Its name carries the layout, so that a program with another one's header does not link.
 #[no_mangle]
-pub extern "C" fn finaruvom_layout_3() -> u32
+pub extern "C" fn finaruvom_layout_4() -> u32
     ensures { λ r. ⌜ r ≡ layout ⌝ }
 {
     LAYOUT
@@ -63,7 +63,7 @@ pub extern "C" fn finaruvom_hash(bytes: &[u8], digest: &mut [u8; 32]) -> u32
     hashed.refusal
 }
 
-// The signature check: verdict and chain steps are written, and the refusal, or 0, is the result.
+// The signature check: verdict, chain steps and leaf, which is 0 where the verdict is no, are written, and the refusal, or 0, is the result.
 #[no_mangle]
 pub extern "C" fn finaruvom_check(
     key: &[u8],
@@ -71,14 +71,17 @@ pub extern "C" fn finaruvom_check(
     signature: &[u8],
     verdict: &mut bool,
     steps: &mut u32,
+    leaf: &mut u32,
 ) -> u32
     ensures refusal { λ r. ⌜ r ≡ checkOf (now (key .entry)) (now (message .entry)) (now (signature .entry)) .refusal ⌝ }
     ensures verdict { λ r. ⌜ now (verdict .exit) ≡ checkOf (now (key .entry)) (now (message .entry)) (now (signature .entry)) .verdict ⌝ }
     ensures steps { λ r. ⌜ now (steps .exit) ≡ checkOf (now (key .entry)) (now (message .entry)) (now (signature .entry)) .steps ⌝ }
+    ensures leaf { λ r. ⌜ now (leaf .exit) ≡ checkOf (now (key .entry)) (now (message .entry)) (now (signature .entry)) .leaf ⌝ }
 {
     let checked = lms::check(key, message, signature);
     *verdict = checked.verdict;
     *steps = checked.steps;
+    *leaf = checked.leaf;
     checked.refusal
 }
 

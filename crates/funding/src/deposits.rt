@@ -49,8 +49,8 @@ pub fn reclaim(ch: Channel, at: Context, command: &[u8]) -> Ruled
     let key = ch.customer.key;
     let id = at.id;
     let j = tested(unjudged(), 5, ch.status == 2);
-    let j = signature_tested(j, 12, key, id, command, 3, 3);
+    let by_customer = signature_tested(j, 12, key, id, command, 3, 3);
     let mut after = ch;
     after.status = 6;
-    ruled(j, ch, after, ch.customer.deposit, Cents(0))
+    ruled(by_customer.judged, ch, after, ch.customer.deposit, Cents(0))
 }

@@ -1,7 +1,7 @@
--- Document 01, "Signature check": what `check` answers.
+-- Document 01, "Signature check": what `check` answers; document 02, No. 5: the leaf that it hands back.
 use Prim.Native.Nat.{ℕ, _+_, _<_}
 use mathlib.Core.Path.{_≡_}
-use mathlib.Core.Bool.{Bool, true, false}
+use mathlib.Core.Bool.{Bool, true, false, cond}
 use mathlib.Core.List.{List}
 use lib.Dec.{leb}
 use lib.ListN.{length}
@@ -26,15 +26,16 @@ pub record Formed (signature : List ℕ) : Type 0 where
   pub size : length signature ≡ 1452
   pub inside : leaf signature < 1024
 
--- Of a well-formed signature: yes exactly when the top is the key's root. All chains are walked in either case.
+-- Of a well-formed signature: yes exactly when the top is the key's root, and then its leaf. All chains are walked in either case.
 unfoldable pub verifiedOf : List ℕ → List ℕ → List ℕ → Checked
 verifiedOf key message signature =
-    record { refusal = 0; verdict = same (topOf key message signature) (root key); steps = stepCount (hashOf key message signature) }
+    let good = same (topOf key message signature) (root key) in
+    record { refusal = 0; verdict = good; steps = stepCount (hashOf key message signature); leaf = cond good (leaf signature) 0 }
 
 -- By whether the message is short enough, and whether key and signature are well formed.
 abbrev pub checkedBy : Bool → Bool → Checked → Checked
-checkedBy false formed verified = record { refusal = 2; verdict = false; steps = 0 }
-checkedBy true false verified = record { refusal = 0; verdict = false; steps = 0 }
+checkedBy false formed verified = record { refusal = 2; verdict = false; steps = 0; leaf = 0 }
+checkedBy true false verified = record { refusal = 0; verdict = false; steps = 0; leaf = 0 }
 checkedBy true true verified = verified
 
 unfoldable pub checkOf : List ℕ → List ℕ → List ℕ → Checked

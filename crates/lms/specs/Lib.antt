@@ -7,3 +7,4 @@ pub mod Walked
 pub mod Tree
 pub mod Check
 pub mod Steps
+pub mod Leaves

@@ -1,5 +1,6 @@
 // The signature check of RFC 8554: LMS type 6 (SHA-256, height 10) over LM-OTS type 4 (w = 8, 34 chains).
 ghost use mathlib.Core.Path.{_≡_};
+ghost use mathlib.Core.Bool.{cond};
 ghost use Prim.Native.Nat.{_≤_};
 ghost use lib.ListN.{length};
 ghost use Rattle.lms.specs.Check.{Formed, verifiedOf, checkOf};
@@ -29,11 +30,23 @@ use wire::id_at;
 use wire::same_digest;
 use wire::u32_at;
 
-// What `check` answers: the refusal, or 0; whether the signature is good; how many chain steps were made.
+// What `check` answers: the refusal, or 0; whether the signature is good; how many chain steps were made; the leaf of a good signature, else 0.
 pub struct Checked {
     pub refusal: u32,
     pub verdict: bool,
     pub steps: u32,
+    pub leaf: u32,
+}
+
+// The leaf of a good signature, else 0.
+fn leaf_if(good: bool, leaf: u32) -> u32
+    ensures { λ r. ⌜ r ≡ cond good leaf 0 ⌝ }
+{
+    if good {
+        leaf
+    } else {
+        0
+    }
 }
 
 // The check of a well-formed signature of a message that is short enough.
@@ -53,10 +66,12 @@ fn verified(key: &[u8], message: &[u8], signature: &[u8]) -> Checked
         leaf_node(id, node, one_time_key),
         path_of(signature),
     );
+    let good = same_digest(top, digest_at(key, 24));
     Checked {
         refusal: 0,
-        verdict: same_digest(top, digest_at(key, 24)),
+        verdict: good,
         steps: walked.steps,
+        leaf: leaf_if(good, leaf),
     }
 }
 
@@ -69,6 +84,7 @@ pub fn check(key: &[u8], message: &[u8], signature: &[u8]) -> Checked
             refusal: 2,
             verdict: false,
             steps: 0,
+            leaf: 0,
         };
     }
     if well_formed(key, signature) {
@@ -78,6 +94,7 @@ pub fn check(key: &[u8], message: &[u8], signature: &[u8]) -> Checked
             refusal: 0,
             verdict: false,
             steps: 0,
+            leaf: 0,
         }
     }
 }

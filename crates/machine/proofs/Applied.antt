@@ -1,9 +1,10 @@
 -- The third demand applied to the list of `Reached`, claim by claim, so that a weaker claim would be seen.
 use mathlib.Core.Path.{_≡_, refl}
-use mathlib.Core.Bool.{true, false}
+use mathlib.Core.Bool.{true, false, false≢true}
 use mathlib.Core.List.{List, [], _∷_, _++_}
 use Prim.Native.Nat.{ℕ, _+_, _<_}
 use native.Mathlib.Omega.{arith}
+use borrow.Author.Tests.{eqb-false}
 use Rattle.wire.specs.Numbers.{u16At, u32At, u64At}
 use Rattle.wire.specs.Parts.{same}
 use Rattle.machine.specs.Format.{size, message}
@@ -27,47 +28,52 @@ accounted l n p = third-demand yes plain blankBook opens refl l n p
 abbrev pays : ℕ → ℕ → Paid
 pays customer merchant = record { customer = customer; merchant = merchant }
 
--- In the last second the disputes of channels 5 and 7 are accepted. The equation and the splits with their figures: channels 5 and 7, the
+-- In the last second the disputes of channels 5 and 7 are accepted, with leaves that were not used; the leaf of an accepted one was neither the
+-- 07's nor the 08's. The equation and the splits with their figures: channels 5 and 7, the
 -- merchant's alone, before and after the dispute, channel 2, and channel 8, reclaimed without a deposit. The refused 03 and the first 01 pay
 -- nothing.
 record Applied : Type 0 where
-  accepted : (step yes plain ((standing list) .book) (disputes 5)) .answer .refusal ≡ 0
+  accepted : (step yes plain ((standing list) .book) (disputes 5 8)) .answer .refusal ≡ 0
   closing : 1000 ≡ 700 + 0 + 300
   over : 1000 ≡ 0 + 0 + 1000
   agreed : 1000 ≡ 0 + 400 + 600
-  disputed : paid (strings 5 ((standing (list ++ disputes 5 ∷ [])) .history)) ≡ pays 0 1000
+  disputed : paid (strings 5 ((standing (list ++ disputes 5 8 ∷ [])) .history)) ≡ pays 0 1000
+  leaf-07 : _≡_ {A = ℕ} 8 9 → ⊥
+  leaf-08 : _≡_ {A = ℕ} 8 7 → ⊥
   split : paid (strings 2 ((standing list) .history)) ≡ pays 400 600
-  credit-accepted : (step yes plain ((standing list) .book) (disputes 7)) .answer .refusal ≡ 0
+  credit-accepted : (step yes plain ((standing list) .book) (disputes 7 1)) .answer .refusal ≡ 0
   credit-closing : 100 ≡ 70 + 0 + 30
   credit-over : 100 ≡ 0 + 0 + 100
-  credit-disputed : paid (strings 7 ((standing (list ++ disputes 7 ∷ [])) .history)) ≡ pays 0 100
+  credit-disputed : paid (strings 7 ((standing (list ++ disputes 7 1 ∷ [])) .history)) ≡ pays 0 100
   unfunded : 0 ≡ 0 + 0 + 0
   reclaimed : paid (strings 8 ((standing list) .history)) ≡ pays 0 0
-  refused : paidBy ((entryAt ((standing list) .history) 10) .answer) ≡ nothing
-  timed : paidBy ((entryAt ((standing list) .history) 15) .answer) ≡ nothing
+  refused : paidBy ((entryAt ((standing list) .history) 11) .answer) ≡ nothing
+  timed : paidBy ((entryAt ((standing list) .history) 16) .answer) ≡ nothing
 
 applied : Applied
 unfolding yes plain standing u16At u32At u64At same size message total held soundChannel sound fresh readChannel reading ask delayed keyed establish fundCustomer fundMerchant reclaim mutualClose customerClose merchantClose dispute settle answer concluded ruling verdict plan step after clock strings opcodes member eventOf sum
 applied =
     let before = accounted list 5 (omega arith) in
-    let after = accounted (list ++ disputes 5 ∷ []) 5 (omega arith) in
+    let after = accounted (list ++ disputes 5 8 ∷ []) 5 (omega arith) in
     let both = accounted list 2 (omega arith) in
     let credit = accounted list 7 (omega arith) in
-    let credit-after = accounted (list ++ disputes 7 ∷ []) 7 (omega arith) in
+    let credit-after = accounted (list ++ disputes 7 1 ∷ []) 7 (omega arith) in
     let returned = accounted list 8 (omega arith) in
     record {
-      accepted = before .dispute (record { closing = refl; undisputed = refl; unsettled = refl; early = omega arith }) (disputes 5) (record { code = refl; whole = refl; named = refl; opens = refl; good = refl });
+      accepted = before .dispute (record { closing = refl; undisputed = refl; unsettled = refl; early = omega arith }) (disputes 5 8) (record { code = refl; whole = refl; named = refl; opens = refl; good = refl; unspent = record { of-07 = eqb-false 8 9 refl; of-08 = λ _. eqb-false 8 7 refl } });
       closing = before .conserved;
       over = after .conserved;
       agreed = both .conserved;
       disputed = after .disputed refl;
+      leaf-07 = (after .leaf-once refl) .of-07;
+      leaf-08 = (after .leaf-once refl) .of-08 refl;
       split = both .splits refl;
-      credit-accepted = credit .dispute (record { closing = refl; undisputed = refl; unsettled = refl; early = omega arith }) (disputes 7) (record { code = refl; whole = refl; named = refl; opens = refl; good = refl });
+      credit-accepted = credit .dispute (record { closing = refl; undisputed = refl; unsettled = refl; early = omega arith }) (disputes 7 1) (record { code = refl; whole = refl; named = refl; opens = refl; good = refl; unspent = record { of-07 = eqb-false 1 0 refl; of-08 = λ h. absurd (false≢true h) } });
       credit-closing = credit .conserved;
       credit-over = credit-after .conserved;
       credit-disputed = credit-after .disputed refl;
       unfunded = returned .conserved;
       reclaimed = returned .splits refl;
-      refused = before .elsewhere 10 (omega arith) refl;
-      timed = before .elsewhere 15 (omega arith) refl;
+      refused = before .elsewhere 11 (omega arith) refl;
+      timed = before .elsewhere 16 (omega arith) refl;
     }

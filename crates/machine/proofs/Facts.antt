@@ -7,26 +7,26 @@ use native.Mathlib.Omega.{arith}
 use lib.Dec.{eqb, leb}
 use borrow.Author.Tests.{le-leb}
 use Rattle.machine.specs.Book.{agreed, total, held, soundTerms, soundChannel}
-use Rattle.machine.specs.Ledger.{Event, deposits, sum, opcodes, member, has, closed, closings, paid, allMerchant, split}
+use Rattle.machine.specs.Ledger.{Event, deposits, sum, opcodes, member, has, eventOf, closed, closings, paid, allMerchant, split, Unspent}
 use Rattle.machine.specs.declared.state.Channel.{Channel}
-use Rattle.machine.specs.declared.state.Setup.{Setup}
 use Rattle.wire.proofs.Laws.{and-make}
 use Rattle.machine.proofs.Laws.{clash, or-right}
-use Rattle.machine.proofs.Life.{Lacks, unclosed, unanswered, running, unmatched, unfunded, TermsOf, Live, Leaving, StageAt}
+use Rattle.machine.proofs.Life.{Basis, leafIn, Lacks, unclosed, unanswered, running, unmatched, unfunded, TermsOf, Live, Leaving, StageAt}
 use Rattle.machine.proofs.Moves.{fewer, lacks-none, tally-none, total-at, held-at}
 
-pub record Facts (x : Setup) (l : List Event) (c : Channel) : Type 0 where
+pub record Facts (x : Basis) (l : List Event) (c : Channel) : Type 0 where
   pub sound : soundChannel c ≡ true
   pub conserved : deposits l ≡ held c + (paid l) .customer + (paid l) .merchant
   pub closes : closed l ≡ eqb (c .status) 6
   pub splits : closed l ≡ true → paid l ≡ split l
   pub disputed : has 9 l ≡ true → paid l ≡ allMerchant l
+  pub leaf-once : has 9 l ≡ true → Unspent (leafIn x l) l ((eventOf 9 l) .string)
   pub either : (has 6 l && has 7 l) ≡ false
   pub single : closings l < 2
   pub begun : (k : ℕ) → has k l ≡ true → has 2 l ≡ true
   pub timely : has 7 l ≡ true → has 9 l ≡ false → has 10 l ≡ false → (c .status ≡ 5) × Leaving x l c
 
-module _ (x : Setup) (l : List Event) (c : Channel) where
+module _ (x : Basis) (l : List Event) (c : Channel) where
   sound-of : TermsOf x l c → leb (c .status) 6 ≡ true → (not (eqb (c .status) 5) || leb (c .kept .0) (agreed c)) ≡ true → soundChannel c ≡ true
   unfolding soundChannel
   sound-of t p q = and-make p (or-right (eqb (c .status) 0) (soundTerms c) (and-make (and-make (le-leb _ _ (t .fits)) (and-make (le-leb _ _ (t .least)) (le-leb _ _ (t .most)))) q))
@@ -39,6 +39,7 @@ module _ (x : Setup) (l : List Event) (c : Channel) where
     closes = rw (w 5 refl, w 6 refl, w 9 refl, w 10 refl, n);
     splits = λ p. let q : closed l ≡ false = rw (w 5 refl, w 6 refl, w 9 refl, w 10 refl) in absurd (clash p q);
     disputed = λ p. absurd (clash p (w 9 refl));
+    leaf-once = λ p. absurd (clash p (w 9 refl));
     either = rw (w 6 refl);
     timely = λ p q r. t p;
     begun = v;
@@ -65,6 +66,7 @@ module _ (x : Setup) (l : List Event) (c : Channel) where
     closes = rw (e, g .ended);
     splits = λ _. g .splits;
     disputed = g .disputed;
+    leaf-once = g .leaf-once;
     either = g .either;
     single = g .single;
     begun = λ k _. g .terms .there;

@@ -5,6 +5,7 @@ pub mod Plans
 pub mod Reached
 pub mod RightTurns
 pub mod Life
+pub mod Leaves
 pub mod Moves
 pub mod Facts
 pub mod ThirdDemand

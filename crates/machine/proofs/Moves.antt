@@ -5,21 +5,22 @@ use mathlib.Core.List.{List, [], _∷_}
 use Prim.Native.Nat.{ℕ, zero, suc, _+_, _≤_, _<_}
 use native.Mathlib.Omega.{arith}
 use lib.Dec.{eqb, leb}
-use borrow.Author.Tests.{eqb-true, leb-true, ne-eqb}
+use borrow.Author.Tests.{eqb-true, leb-true, ne-eqb, not-true}
 use Rattle.machine.specs.Checks.{Verdict}
-use Rattle.machine.specs.Format.{opcode, amount, customerDeposit, merchantDeposit, delay, customerPart, merchantPart, lock}
-use Rattle.machine.specs.Book.{limit, shortest, longest, ranged, agreed, total, held, soundSetup}
+use Rattle.machine.specs.Format.{opcode, amount, customerDeposit, merchantDeposit, delay, customerPart, merchantPart, lock, signatures}
+use Rattle.machine.specs.Book.{limit, shortest, longest, ranged, agreed, total, held, remembered, soundSetup}
+use Rattle.machine.specs.Book as book
 use Rattle.machine.specs.Rules.{Plan, moved, become, delayed, delayFits, established, establish, fundCustomer, fundMerchant, reclaim, mutualClose, customerClose, merchantClose, dispute, settle}
-use Rattle.machine.specs.Machine.{customerOf, merchantOf, plan}
-use Rattle.machine.specs.Ledger.{Event, deposits, sum, opcodes, member, tally, has, count, eventOf, closings, agreedCustomer, agreedTotal, paid, allMerchant, split}
+use Rattle.machine.specs.Machine.{customerOf, merchantOf, verdict, plan}
+use Rattle.machine.specs.Ledger.{Event, deposits, sum, opcodes, member, tally, has, count, eventOf, closings, agreedCustomer, agreedTotal, paid, allMerchant, split, Unspent}
 use Rattle.machine.specs.declared.state.Channel.{Channel}
-use Rattle.machine.specs.declared.state.Setup.{Setup}
 use Rattle.machine.specs.declared.state.Context.{Context}
 use Rattle.machine.specs.declared.answers.Answer.{Answer}
 use Rattle.wire.proofs.Laws.{and-both}
 use Rattle.machine.proofs.Laws.{clash, in-range, or-neither, or-other, or-right}
 use Rattle.machine.proofs.Judging.{Passed}
-use Rattle.machine.proofs.Life.{Lacks, unclosed, unanswered, running, unmatched, unfunded, TermsOf, Money, Live, Waiting, Leaving, Over, StageAt, Stage}
+use Rattle.machine.proofs.Leaves.{unspent}
+use Rattle.machine.proofs.Life.{Basis, leafIn, Lacks, unclosed, unanswered, running, unmatched, unfunded, TermsOf, Money, Live, Waiting, Leaving, Over, StageAt, Stage}
 
 -- ---- laws
 
@@ -101,38 +102,42 @@ module _ (l : List Event) (s : List ℕ) (a : Answer) (k : ℕ) where
   unfolding opcodes tally member
   single-on w h = omega (arith, tally-none 5 (opcodes l) (w 5 refl), tally-none 6 (opcodes l) (w 6 refl), tally-none 9 (opcodes l) (w 9 refl), tally-none 10 (opcodes l) (w 10 refl))
 
-  undisputed : eqb (opcode s) 9 ≡ false → has 9 l ≡ false → has 9 (next ∷ l) ≡ true → paid (next ∷ l) ≡ allMerchant (next ∷ l)
+  undisputed : eqb (opcode s) 9 ≡ false → has 9 l ≡ false → has 9 (next ∷ l) ≡ true → ⊥
   unfolding opcodes member
-  undisputed o m h = let z : has 9 (next ∷ l) ≡ false = rw (o, m) in absurd (clash h z)
+  undisputed o m h = let z : has 9 (next ∷ l) ≡ false = rw (o, m) in clash h z
 
-  -- What a rule reads: its setup is sound, and its clock is the history's.
-  module _ (c : Channel) (at : Context) (fixed : soundSetup (at .setup) ≡ true) (same : k ≡ at .clock .0) where
-    abbrev setup : Setup
-    setup = at .setup
+  unspent-on : (leaf : ℕ → List ℕ → ℕ) (d : List ℕ) → eqb (opcode s) 7 ≡ false → eqb (opcode s) 8 ≡ false → Unspent leaf l d → Unspent leaf (next ∷ l) d
+  unfolding opcodes member
+  unspent-on leaf d a b u = record { of-07 = rw (event-skip 7 a) (u .of-07); of-08 = rw (b, event-skip 8 b) (u .of-08) }
 
-    terms-on : eqb (opcode s) 2 ≡ false → TermsOf setup l c → TermsOf setup (next ∷ l) c
+  -- What a rule reads: its setup is sound, and its clock is the history's. The leaf of a merchant's signature, by key, opcode and string.
+  module _ (c : Channel) (at : Context) (fixed : soundSetup (at .setup) ≡ true) (same : k ≡ at .clock .0) (leaf : List ℕ → ℕ → List ℕ → ℕ) where
+    abbrev basis : Basis
+    basis = record { setup = at .setup; leaf = leaf }
+
+    terms-on : eqb (opcode s) 2 ≡ false → TermsOf basis l c → TermsOf basis (next ∷ l) c
     unfolding opcodes member
     terms-on o t = rw (event-skip 2 o, o) t
 
     abbrev pub Leads : ℕ → Plan → Type 0
     Leads op p =
-        opcode s ≡ op → Passed (p .checks) → a .customer .0 ≡ p .pays .customer .0 → a .merchant .0 ≡ p .pays .merchant .0 → Stage setup l c → Stage setup (next ∷ l) (p .channel) × (has op l ≡ false)
+        opcode s ≡ op → Passed (p .checks) → a .customer .0 ≡ p .pays .customer .0 → a .merchant .0 ≡ p .pays .merchant .0 → Stage basis l c → Stage basis (next ∷ l) (p .channel) × (has op l ≡ false)
 
     -- The stage at a status that check 5 found.
-    found : (n : ℕ) → eqb (c .status) n ≡ true → Stage setup l c → StageAt setup l c n
-    found n q g = subst (StageAt setup l c) (eqb-true (c .status) n q) g
+    found : (n : ℕ) → eqb (c .status) n ≡ true → Stage basis l c → StageAt basis l c n
+    found n q g = subst (StageAt basis l c) (eqb-true (c .status) n q) g
 
     establishes : Leads 2 (establish at (customerOf s) (merchantOf s) (delay s) c)
     unfolding establish opcodes member sum
     establishes o p pc pm g =
         let e : l ≡ [] = found 0 (p .0) g in
-        let d = delayed-fits (setup .delay) fixed (delay s) (p .1 .1 .0) in
+        let d = delayed-fits (at .setup .delay) fixed (delay s) (p .1 .1 .0) in
         let f = and-both (leb (customerDeposit s + merchantDeposit s) limit) _ (p .1 .1 .1 .0) in
-        let ch = established (setup .delay) (customerOf s) (merchantOf s) (delay s) c in
-        let t : TermsOf setup (next ∷ l) ch = rw (event-next 2 (rw o)) (record { there = rw o; customer = refl; merchant = refl; delays = refl; signer = refl; fits = leb-true _ _ (f .0); least = d .0; most = d .1 }) in
+        let ch = established (at .setup .delay) (customerOf s) (merchantOf s) (delay s) c in
+        let t : TermsOf basis (next ∷ l) ch = rw (event-next 2 (rw o)) (record { there = rw o; customer = refl; merchant = refl; delays = refl; signer = refl; fits = leb-true _ _ (f .0); least = d .0; most = d .1 }) in
         let w = lacks-on unfunded (rw o) (rw e (lacks-none unfunded)) in
         let m : Money (next ∷ l) 0 0 0 = omega (arith, no-funds (rw o), pays-customer, pays-merchant, ap deposits e, ap (λ x. (paid x) .customer) e, ap (λ x. (paid x) .merchant) e) in
-        let go : (b : Bool) → eqb (customerDeposit s) 0 ≡ b → StageAt setup (next ∷ l) ch (cond b 2 1) = elim [
+        let go : (b : Bool) → eqb (customerDeposit s) 0 ≡ b → StageAt basis (next ∷ l) ch (cond b 2 1) = elim [
           | true ↦ λ z. record { terms = t; lacks = fewer 3 unmatched (next ∷ l) w; money = rw (eqb-true (customerDeposit s) 0 z) m }
           | false ↦ λ z. record { terms = t; lacks = w; money = m }
         ] in
@@ -141,10 +146,10 @@ module _ (l : List Event) (s : List ℕ) (a : Answer) (k : ℕ) where
     fundsCustomer : Leads 3 (fundCustomer (amount s) c)
     unfolding fundCustomer member
     fundsCustomer o p pc pm g =
-        let g′ : Live setup unfunded 0 l c = found 1 (p .0) g in
+        let g′ : Live basis unfunded 0 l c = found 1 (p .0) g in
         let f = eqb-true (amount s) (c .customer .deposit .0) (p .1 .0) in
         let more = fewer 3 unmatched l (g′ .lacks) in
-        let go : (b : Bool) → eqb (c .merchant .deposit .0) 0 ≡ b → Stage setup (next ∷ l) (become (cond b 3 2) c) = elim [
+        let go : (b : Bool) → eqb (c .merchant .deposit .0) 0 ≡ b → Stage basis (next ∷ l) (become (cond b 3 2) c) = elim [
           | true ↦ λ z. record { terms = terms-on (rw o) (g′ .terms); lacks = lacks-on running (rw o) (fewer 4 running l more); money = omega (arith, a-funds (rw o), pays-customer, pays-merchant, eqb-true) }
           | false ↦ λ z. record { terms = terms-on (rw o) (g′ .terms); lacks = lacks-on unmatched (rw o) more; money = omega (arith, a-funds (rw o), pays-customer, pays-merchant) }
         ] in
@@ -153,7 +158,7 @@ module _ (l : List Event) (s : List ℕ) (a : Answer) (k : ℕ) where
     fundsMerchant : Leads 4 (fundMerchant (amount s) c)
     unfolding fundMerchant member
     fundsMerchant o p pc pm g =
-        let g′ : Live setup unmatched (c .customer .deposit .0) l c = found 2 (p .0) g in
+        let g′ : Live basis unmatched (c .customer .deposit .0) l c = found 2 (p .0) g in
         let f = eqb-true (amount s) (c .merchant .deposit .0) (p .1 .0) in (
           record {
             terms = terms-on (rw o) (g′ .terms);
@@ -166,7 +171,7 @@ module _ (l : List Event) (s : List ℕ) (a : Answer) (k : ℕ) where
     reclaims : (v : Verdict) → Leads 5 (reclaim v c)
     unfolding reclaim opcodes member
     reclaims v o p pc pm g =
-        let g′ : Live setup unmatched (c .customer .deposit .0) l c = found 2 (p .0) g in
+        let g′ : Live basis unmatched (c .customer .deposit .0) l c = found 2 (p .0) g in
         let t = terms-on (rw o) (g′ .terms) in (
           record {
             terms = t;
@@ -175,7 +180,8 @@ module _ (l : List Event) (s : List ℕ) (a : Answer) (k : ℕ) where
             left = rw (o, g′ .lacks 7 refl);
             even = omega (arith, no-funds (rw o), pays-customer, pays-merchant);
             splits = paid-split (next ∷ l) (agreedCustomer (next ∷ l)) 0 (rw o) (omega (arith, pays-customer, t)) (omega (arith, pays-merchant));
-            disputed = undisputed (rw o) (g′ .lacks 9 refl);
+            disputed = λ h. absurd (undisputed (rw o) (g′ .lacks 9 refl) h);
+            leaf-once = λ h. absurd (undisputed (rw o) (g′ .lacks 9 refl) h);
             either = rw (o, g′ .lacks 6 refl);
           },
           g′ .lacks 5 refl,
@@ -184,7 +190,7 @@ module _ (l : List Event) (s : List ℕ) (a : Answer) (k : ℕ) where
     agrees : (v w : Verdict) → Leads 6 (mutualClose (customerPart 6 s) (merchantPart 6 s) v w c)
     unfolding mutualClose opcodes member
     agrees v w o p pc pm g =
-        let g′ : Live setup running (agreed c) l c = found 3 (p .0) g in
+        let g′ : Live basis running (agreed c) l c = found 3 (p .0) g in
         let f = eqb-true (customerPart 6 s + merchantPart 6 s) (total c) (p .1 .0) in
         let q = total-at c 2 (eqb-true (c .status) 3 (p .0)) in
         let n = event-next 6 (rw o) in (
@@ -195,43 +201,57 @@ module _ (l : List Event) (s : List ℕ) (a : Answer) (k : ℕ) where
             left = rw (o, g′ .lacks 7 refl);
             even = omega (arith, no-funds (rw o), pays-customer, pays-merchant);
             splits = paid-split (next ∷ l) (customerPart 6 ((eventOf 6 (next ∷ l)) .string)) (merchantPart 6 ((eventOf 6 (next ∷ l)) .string)) (rw (o, g′ .lacks 5 refl)) (rw n (omega (arith, pays-customer))) (rw n (omega (arith, pays-merchant)));
-            disputed = undisputed (rw o) (g′ .lacks 9 refl);
+            disputed = λ h. absurd (undisputed (rw o) (g′ .lacks 9 refl) h);
+            leaf-once = λ h. absurd (undisputed (rw o) (g′ .lacks 9 refl) h);
             either = rw (o, g′ .lacks 7 refl);
           },
           g′ .lacks 6 refl,
         )
 
-    leaves : (v w : Verdict) → Leads 7 (customerClose at (lock s) (customerPart 7 s) (merchantPart 7 s) v w c)
+    -- A verdict on the merchant's signature in the string hands back its leaf.
+    abbrev Tells : ℕ → Verdict → Type 0
+    Tells op v = v .leaf ≡ leaf (c .merchant .key) op s
+
+    told-by : (op : ℕ) (v : Verdict) → TermsOf basis l c → Tells op v → v .leaf ≡ leafIn basis l op s
+    told-by op v t e = e ∙ ap (λ (key : List ℕ). leaf key op s) (t .signer)
+
+    leaves : (v w : Verdict) → Tells 7 v → Leads 7 (customerClose at (lock s) (customerPart 7 s) (merchantPart 7 s) v w c)
     unfolding customerClose opcodes member
-    leaves v w o p pc pm g = go (eqb (c .status) 3) refl
+    leaves v w told o p pc pm g = go (eqb (c .status) 3) refl
       where
-        close : Live setup unanswered (agreed c) l c → total c ≡ agreed c → Leaving setup (next ∷ l) (moved c 5 (at .clock .0 + c .delay) (customerPart 7 s) (lock s)) × (has 7 l ≡ false)
-        close g′ q =
+        first : Bool → ℕ
+        first x = cond x (v .leaf) (c .leaves .first)
+
+        close : (x : Bool) → Live basis unanswered (agreed c) l c → total c ≡ agreed c → first x ≡ cond (has 8 l) (leafIn basis l 8 ((eventOf 8 l) .string)) (v .leaf)
+            → Leaving basis (next ∷ l) (moved c 5 (at .clock .0 + c .delay) (customerPart 7 s) (lock s) (book.leaves (first x) (v .leaf))) × (has 7 l ≡ false)
+        close x g′ q r =
             let f = eqb-true (customerPart 7 s + merchantPart 7 s) (total c) (p .1 .0) in
-            let n = event-next 7 (rw o) in (
+            let n = event-next 7 (rw o) in
+            let u = told-by 7 v (g′ .terms) told in (
               record {
                 terms = terms-on (rw o) (g′ .terms);
                 lacks = lacks-on unclosed (rw o) (fewer 7 unclosed l (g′ .lacks));
                 begun = rw o;
                 closing = rw n (record { part = refl; whole = omega arith; lock′ = refl; due = omega arith });
+                leaves = rw (event-skip 2 (rw o)) (record { of-08 = rw (o, event-skip 8 (rw o), n) (r ∙ ap (cond (has 8 l) _) u); of-07 = rw n u });
                 money = rw n (omega (arith, no-funds (rw o), pays-customer, pays-merchant));
               },
               g′ .lacks 7 refl,
             )
 
-        go : (x : Bool) → eqb (c .status) 3 ≡ x → Leaving setup (next ∷ l) (moved c 5 (at .clock .0 + c .delay) (customerPart 7 s) (lock s)) × (has 7 l ≡ false)
+        go : (x : Bool) → eqb (c .status) 3 ≡ x → Leaving basis (next ∷ l) (moved c 5 (at .clock .0 + c .delay) (customerPart 7 s) (lock s) (book.leaves (first x) (v .leaf))) × (has 7 l ≡ false)
         go true z =
-            let h : Live setup running (agreed c) l c = found 3 z g in
-            close (record { terms = h .terms; lacks = fewer 8 unanswered l (h .lacks); money = h .money }) (total-at c 2 (eqb-true (c .status) 3 z))
+            let h : Live basis running (agreed c) l c = found 3 z g in
+            close true (record { terms = h .terms; lacks = fewer 8 unanswered l (h .lacks); money = h .money }) (total-at c 2 (eqb-true (c .status) 3 z)) (rw (h .lacks 8 refl))
         go false z =
             let y = or-other (eqb (c .status) 3) (eqb (c .status) 4) (p .0) z in
-            let h : Waiting setup l c = found 4 y g in
-            close (h .live) (total-at c 3 (eqb-true (c .status) 4 y))
+            let h : Waiting basis l c = found 4 y g in
+            close false (h .live) (total-at c 3 (eqb-true (c .status) 4 y)) (rw (h .begun) (h .leaf))
 
-    closes : (v : Verdict) → Leads 8 (merchantClose at v c)
+    closes : (v : Verdict) → Tells 8 v → Leads 8 (merchantClose at v c)
     unfolding merchantClose opcodes member
-    closes v o p pc pm g =
-        let g′ : Live setup running (agreed c) l c = found 3 (p .0) g in (
+    closes v told o p pc pm g =
+        let g′ : Live basis running (agreed c) l c = found 3 (p .0) g in (
           record {
             live = record {
               terms = terms-on (rw o) (g′ .terms);
@@ -239,17 +259,20 @@ module _ (l : List Event) (s : List ℕ) (a : Answer) (k : ℕ) where
               money = omega (arith, no-funds (rw o), pays-customer, pays-merchant);
             };
             begun = rw o;
+            leaf = rw (event-next 8 (rw o), event-skip 2 (rw o)) (told-by 8 v (g′ .terms) told);
           },
           g′ .lacks 8 refl,
         )
 
-    disputes : (h : List ℕ) (v : Verdict) → Leads 9 (dispute at h v c)
+    disputes : (h : List ℕ) (v : Verdict) → Tells 9 v → Leads 9 (dispute at h v c)
     unfolding dispute opcodes member
-    disputes h v o p pc pm g =
-        let g′ : Leaving setup l c = found 5 (p .0) g in
+    disputes h v told o p pc pm g =
+        let g′ : Leaving basis l c = found 5 (p .0) g in
         let t = terms-on (rw o) (g′ .terms) in
         let e : split (next ∷ l) ≡ allMerchant (next ∷ l) = rw (o, g′ .lacks 5 refl, g′ .lacks 6 refl, g′ .begun, g′ .lacks 10 refl) in
-        let q = paid-split (next ∷ l) 0 (agreedTotal (next ∷ l)) e (omega (arith, pays-customer)) (omega (arith, pays-merchant, t)) in (
+        let q = paid-split (next ∷ l) 0 (agreedTotal (next ∷ l)) e (omega (arith, pays-customer)) (omega (arith, pays-merchant, t)) in
+        let n : remembered (v .leaf) c ≡ false = not-true _ (p .1 .1 .1 .1 .0) in
+        let u = unspent (leafIn basis l) l c (g′ .leaves) s (rw (told-by 9 v (g′ .terms) told) at n) in (
           record {
             terms = t;
             single = single-on (g′ .lacks) (rw o (omega arith));
@@ -258,6 +281,7 @@ module _ (l : List Event) (s : List ℕ) (a : Answer) (k : ℕ) where
             even = omega (arith, no-funds (rw o), pays-customer, pays-merchant);
             splits = q;
             disputed = λ _. q ∙ e;
+            leaf-once = λ _. rw (event-next 9 (rw o), event-skip 2 (rw o)) (unspent-on (leafIn basis l) s (rw o) (rw o) u);
             either = rw (o, g′ .lacks 6 refl);
           },
           g′ .lacks 9 refl,
@@ -267,9 +291,9 @@ module _ (l : List Event) (s : List ℕ) (a : Answer) (k : ℕ) where
     unfolding settle opcodes member
     settles o p pc pm g = go (eqb (c .status) 4) refl
       where
-        go : (x : Bool) → eqb (c .status) 4 ≡ x → Over setup (next ∷ l) (become 6 c) × (has 10 l ≡ false)
+        go : (x : Bool) → eqb (c .status) 4 ≡ x → Over basis (next ∷ l) (become 6 c) × (has 10 l ≡ false)
         go true z =
-            let w : Waiting setup l c = found 4 z g in
+            let w : Waiting basis l c = found 4 z g in
             let g′ = w .live in
             let e = eqb-true (c .status) 4 z in
             let x : a .customer .0 ≡ 0 = pc ∙ rw z in
@@ -282,14 +306,15 @@ module _ (l : List Event) (s : List ℕ) (a : Answer) (k : ℕ) where
                 left = rw (o, g′ .lacks 7 refl);
                 even = omega (arith, no-funds (rw o), pays-customer, pays-merchant);
                 splits = paid-split (next ∷ l) 0 (agreedTotal (next ∷ l)) (rw (o, g′ .lacks 5 refl, g′ .lacks 6 refl, g′ .lacks 7 refl, w .begun)) (omega (arith, pays-customer)) (omega (arith, pays-merchant, t));
-                disputed = undisputed (rw o) (g′ .lacks 9 refl);
+                disputed = λ h. absurd (undisputed (rw o) (g′ .lacks 9 refl) h);
+                leaf-once = λ h. absurd (undisputed (rw o) (g′ .lacks 9 refl) h);
                 either = rw (o, g′ .lacks 6 refl);
               },
               g′ .lacks 10 refl,
             )
         go false z =
             let q = or-other (eqb (c .status) 4) (eqb (c .status) 5) (p .0) z in
-            let g′ : Leaving setup l c = found 5 q g in
+            let g′ : Leaving basis l c = found 5 q g in
             let x : a .customer .0 ≡ c .kept .0 = pc ∙ rw z in
             let y : a .merchant .0 ≡ 0 = pm ∙ rw z in
             let n = event-skip 7 (rw o) in (
@@ -300,7 +325,8 @@ module _ (l : List Event) (s : List ℕ) (a : Answer) (k : ℕ) where
                 left = rw (o, g′ .begun, g′ .lacks 9 refl);
                 even = omega (arith, no-funds (rw o), pays-customer, pays-merchant);
                 splits = paid-split (next ∷ l) (customerPart 7 ((eventOf 7 (next ∷ l)) .string)) (merchantPart 7 ((eventOf 7 (next ∷ l)) .string)) (rw (o, g′ .lacks 5 refl, g′ .lacks 6 refl, g′ .begun)) (rw n (omega (arith, pays-customer))) (rw n (omega (arith, pays-merchant)));
-                disputed = undisputed (rw o) (g′ .lacks 9 refl);
+                disputed = λ h. absurd (undisputed (rw o) (g′ .lacks 9 refl) h);
+                leaf-once = λ h. absurd (undisputed (rw o) (g′ .lacks 9 refl) h);
                 either = rw (o, g′ .lacks 6 refl);
               },
               g′ .lacks 10 refl,
@@ -308,20 +334,20 @@ module _ (l : List Event) (s : List ℕ) (a : Answer) (k : ℕ) where
 
     -- An accepted command of a channel leads from its stage to the next, and its opcode had not come.
     module _ (check : List ℕ → List ℕ → List ℕ → Verdict) (hash : List ℕ → List ℕ) where
-      pub moves : (op : ℕ) → Leads op (plan check hash op at s c)
+      pub moves : ((op : ℕ) → Tells op (verdict check (c .merchant .key) (at .id) s (signatures op) (signatures op))) → (op : ℕ) → Leads op (plan check hash op at s c)
       unfolding plan
-      moves zero = λ o p. absurd (clash (p .0) refl)
-      moves (suc zero) = λ o p. absurd (clash (p .0) refl)
-      moves (suc (suc zero)) = establishes
-      moves (suc (suc (suc zero))) = fundsCustomer
-      moves (suc (suc (suc (suc zero)))) = fundsMerchant
-      moves (suc (suc (suc (suc (suc zero))))) = reclaims _
-      moves (suc (suc (suc (suc (suc (suc zero)))))) = agrees _ _
-      moves (suc (suc (suc (suc (suc (suc (suc zero))))))) = leaves _ _
-      moves (suc (suc (suc (suc (suc (suc (suc (suc zero)))))))) = closes _
-      moves (suc (suc (suc (suc (suc (suc (suc (suc (suc zero))))))))) = disputes _ _
-      moves (suc (suc (suc (suc (suc (suc (suc (suc (suc (suc zero)))))))))) = settles
-      moves (suc (suc (suc (suc (suc (suc (suc (suc (suc (suc (suc n))))))))))) = λ o p. absurd (clash (p .0) refl)
+      moves told zero = λ o p. absurd (clash (p .0) refl)
+      moves told (suc zero) = λ o p. absurd (clash (p .0) refl)
+      moves told (suc (suc zero)) = establishes
+      moves told (suc (suc (suc zero))) = fundsCustomer
+      moves told (suc (suc (suc (suc zero)))) = fundsMerchant
+      moves told (suc (suc (suc (suc (suc zero))))) = reclaims _
+      moves told (suc (suc (suc (suc (suc (suc zero)))))) = agrees _ _
+      moves told (suc (suc (suc (suc (suc (suc (suc zero))))))) = leaves _ _ (told 7)
+      moves told (suc (suc (suc (suc (suc (suc (suc (suc zero)))))))) = closes _ (told 8)
+      moves told (suc (suc (suc (suc (suc (suc (suc (suc (suc zero))))))))) = disputes _ _ (told 9)
+      moves told (suc (suc (suc (suc (suc (suc (suc (suc (suc (suc zero)))))))))) = settles
+      moves told (suc (suc (suc (suc (suc (suc (suc (suc (suc (suc (suc n))))))))))) = λ o p. absurd (clash (p .0) refl)
 
 -- ---- each opcode comes once
 

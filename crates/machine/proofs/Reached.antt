@@ -1,12 +1,12 @@
 -- A list by computing, so that the third demand speaks of books that are reached, with a check that always says yes and a hash that changes
 -- nothing, on a book opened with the desk's settings: channel 2 is closed by both; the customer closes channels 5 and 7, whose 02 has the delay
--- 0, and there is no 08; the clock shows the last second before the deadline of the default. Channels 7 and 8 are the merchant's alone to
--- fund; channel 8 is reclaimed before he does.
+-- 0; the clock shows the last second before the deadline of the default. On channel 5 the customer answers an 08 with leaf 7, by a 07 with leaf
+-- 9; on channel 7 there is no 08, and the leaf is 0. Channels 7 and 8 are the merchant's alone to fund; channel 8 is reclaimed before he does.
 use mathlib.Core.Path.{_≡_, refl}
 use mathlib.Core.Bool.{true}
 use mathlib.Core.List.{List, [], _∷_, _++_}
 use Prim.Native.Nat.{ℕ, _/_, _%_}
-use lib.ListN.{replicate}
+use lib.ListN.{getD, replicate}
 use Rattle.wire.specs.Numbers.{u16At, u32At, u64At}
 use Rattle.wire.specs.Parts.{same}
 use Rattle.machine.specs.Format.{size, message}
@@ -17,8 +17,9 @@ use Rattle.machine.specs.Rules.{delayed, keyed, establish, fundCustomer,
 use Rattle.machine.specs.Machine.{answer, concluded, ruling, verdict, plan, step}
 use Rattle.machine.specs.Ledger.{Standing, after}
 
+-- The leaf is the fourth byte.
 unfoldable pub yes : List ℕ → List ℕ → List ℕ → Verdict
-yes key text signature = record { good = true; steps = 510 }
+yes key text signature = record { good = true; steps = 510; leaf = getD signature 3 0 }
 
 unfoldable pub plain : List ℕ → List ℕ
 plain x = x
@@ -45,11 +46,15 @@ funds op n cents = op ∷ two n ++ eight cents
 abbrev clocks : ℕ → List ℕ
 clocks t = 1 ∷ eight t
 
-abbrev closes : ℕ → ℕ → ℕ → List ℕ
-closes n customer merchant = 7 ∷ two n ++ replicate 32 5 ++ eight customer ++ eight merchant ++ replicate 2904 0
+-- A signature with this leaf.
+abbrev signs : ℕ → List ℕ
+signs leaf = replicate 3 0 ++ leaf ∷ replicate 1448 0
 
-abbrev pub disputes : ℕ → List ℕ
-disputes n = 9 ∷ two n ++ replicate 32 5 ++ replicate 1452 0
+abbrev closes : ℕ → ℕ → ℕ → ℕ → List ℕ
+closes n customer merchant leaf = 7 ∷ two n ++ replicate 32 5 ++ eight customer ++ eight merchant ++ signs leaf ++ signs 8
+
+abbrev pub disputes : ℕ → ℕ → List ℕ
+disputes n leaf = 9 ∷ two n ++ replicate 32 5 ++ signs leaf
 
 abbrev pub opens : Opening
 opens = under deskSettings (replicate 16 0)
@@ -66,10 +71,11 @@ list =
     ∷ funds 3 5 900
     ∷ funds 4 5 100
     ∷ (6 ∷ two 2 ++ eight 400 ++ eight 600 ++ replicate 2904 0)
-    ∷ closes 5 700 300
+    ∷ (8 ∷ two 5 ++ signs 7)
+    ∷ closes 5 700 300 9
     ∷ agrees 7 0 100 0
     ∷ funds 4 7 100
-    ∷ closes 7 70 30
+    ∷ closes 7 70 30 0
     ∷ agrees 8 0 100 0
     ∷ (5 ∷ two 8 ++ replicate 1452 0)
     ∷ clocks 173799
@@ -82,14 +88,18 @@ record Reached (t : Standing) : Type 0 where
   status : (reading (t .book) 5) .status ≡ 5
   holds : (reading (t .book) 5) .held .0 ≡ 700
   deadline : (reading (t .book) 5) .deadline .0 ≡ 173800
-  disputed : (step yes plain (t .book) (disputes 5)) .answer .refusal ≡ 0
-  pays : (step yes plain (t .book) (disputes 5)) .answer .merchant .0 ≡ 700
-  steps : (step yes plain (t .book) (disputes 5)) .answer .steps ≡ 510
+  disputed : (step yes plain (t .book) (disputes 5 8)) .answer .refusal ≡ 0
+  pays : (step yes plain (t .book) (disputes 5 8)) .answer .merchant .0 ≡ 700
+  steps : (step yes plain (t .book) (disputes 5 8)) .answer .steps ≡ 510
+  spent-07 : (step yes plain (t .book) (disputes 5 9)) .answer .refusal ≡ 16
+  spent-08 : (step yes plain (t .book) (disputes 5 7)) .answer .refusal ≡ 16
+  spent-steps : (step yes plain (t .book) (disputes 5 7)) .answer .steps ≡ 510
+  spent-0 : (step yes plain (t .book) (disputes 7 0)) .answer .refusal ≡ 16
   settles : (step yes plain (t .book) (10 ∷ two 5)) .answer .refusal ≡ 9
-  late : (step yes plain ((step yes plain (t .book) (clocks 173800)) .book) (disputes 5)) .answer .refusal ≡ 9
-  credit-pays : (step yes plain (t .book) (disputes 7)) .answer .merchant .0 ≡ 70
+  late : (step yes plain ((step yes plain (t .book) (clocks 173800)) .book) (disputes 5 8)) .answer .refusal ≡ 9
+  credit-pays : (step yes plain (t .book) (disputes 7 1)) .answer .merchant .0 ≡ 70
   reclaimed : (reading (t .book) 8) .status ≡ 6
 
 reached : Reached (standing list)
 unfolding yes plain standing u16At u32At u64At same size message total held soundChannel sound fresh readChannel reading ask delayed keyed establish fundCustomer fundMerchant reclaim mutualClose customerClose merchantClose dispute settle answer concluded ruling verdict plan step after
-reached = record { status = refl; holds = refl; deadline = refl; disputed = refl; pays = refl; steps = refl; settles = refl; late = refl; credit-pays = refl; reclaimed = refl }
+reached = record { status = refl; holds = refl; deadline = refl; disputed = refl; pays = refl; steps = refl; spent-07 = refl; spent-08 = refl; spent-steps = refl; spent-0 = refl; settles = refl; late = refl; credit-pays = refl; reclaimed = refl }

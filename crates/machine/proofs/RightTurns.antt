@@ -1,6 +1,6 @@
 -- The sentences that are easy to misread hold.
 use mathlib.Core.Path.{_≡_, refl, ap, _∙_}
-use mathlib.Core.Bool.{Bool, true, false, cond, _&&_}
+use mathlib.Core.Bool.{Bool, true, false, cond, _&&_, or-true}
 use mathlib.Core.List.{List, [], _∷_}
 use Prim.Native.Nat.{ℕ, zero, suc, _+_, _≤_, _<_}
 use native.Mathlib.Omega.{arith}
@@ -15,7 +15,7 @@ use Rattle.machine.specs.Opening.{Opening, fresh, opening}
 use Rattle.machine.specs.Due.{due}
 use Rattle.machine.specs.Rules.{Plan, delayed, keyed, delayFits, depositsFit, establish, fundCustomer, fundMerchant, reclaim, mutualClose, customerClose, merchantClose, dispute, settle}
 use Rattle.machine.specs.Machine.{answer, concluded, ruling, Order, setClock, onChannel, formed, shared, carried, contextOf, noPlan, plans, plan, order, step}
-use Rattle.machine.specs.WrongTurns.{refusal, answered, rising, Keys, notOpened, Opens, Unsound, WrongTurns}
+use Rattle.machine.specs.WrongTurns.{refusal, answered, rising, Keys, DisputesByLeaf, notOpened, Opens, Unsound, WrongTurns}
 use Rattle.machine.specs.declared.state.Party.{Party}
 use Rattle.machine.specs.declared.state.Channel.{Channel}
 use Rattle.machine.specs.declared.state.Context.{Context}
@@ -82,6 +82,22 @@ module _ (at : Context) (customer merchant : Party) (d : ℕ) (ch : Channel) (un
   compares-keys : Keys at customer merchant d ch
   compares-keys = record { differ = λ i n. pass-six (λ e. n (ap (λ (k : List ℕ). getD k i 0) e)); equal = fail-six }
 
+disputes-by-leaf : (at : Context) (hashed : List ℕ) (v : Verdict) (ch : Channel) → ch .status ≡ 5 → at .clock .0 < ch .deadline .0 → hashed ≡ ch .lock → DisputesByLeaf at hashed v ch
+unfolding dispute ask answer concluded ruling
+disputes-by-leaf at hashed v ch e t h =
+    let z : 0 + v .steps ≡ v .steps = omega arith in
+    record {
+      bad = λ g. rw (e, lt-ltb _ _ t, h, same-refl (ch .lock), g, z);
+      first = λ g q. rw (e, lt-ltb _ _ t, h, same-refl (ch .lock), g, eq-eqb _ _ q, z);
+      second = λ g q. rw (e, lt-ltb _ _ t, h, same-refl (ch .lock), g, eq-eqb _ _ q, or-true (eqb (v .leaf) (ch .leaves .first)), z);
+      other = λ g m n. rw (e, lt-ltb _ _ t, h, same-refl (ch .lock), g, ne-eqb _ _ m, ne-eqb _ _ n, z);
+    }
+
+answers-any : (at : Context) (c b : ℕ) (lock : List ℕ) (v w : Verdict) (ch : Channel) → ch .status ≡ 4 → at .clock .0 < ch .deadline .0 → c + b ≡ total ch → v .good ≡ true → w .good ≡ true
+    → (answered ch (customerClose at lock c b v w ch)) .refusal ≡ 0
+unfolding customerClose ask answer concluded ruling
+answers-any at c b lock v w ch e t f g h = rw (eq-eqb (c + b) (total ch) f, e, lt-ltb _ _ t, g, h)
+
 module _ (check : List ℕ → List ℕ → List ℕ → Verdict) (hash : List ℕ → List ℕ) where
   in-order : (b : Book) (s : List ℕ) → 1 ≤ opcode s → opcode s ≤ 10 → rising 0 (formed s ((order check hash b s) .checks)) ≡ true
   unfolding plan establish fundCustomer fundMerchant reclaim mutualClose customerClose merchantClose dispute settle
@@ -119,7 +135,7 @@ module _ (check : List ℕ → List ℕ → List ℕ → Verdict) (hash : List �
   refused b s h = carried-stops (judge clean (shared b s ((order check hash b s) .checks))) b (order check hash b s) h
 
   pub right-turns : WrongTurns check hash
-  unfolding total readChannel ask delayed establish reclaim customerClose dispute settle answer concluded ruling
+  unfolding total readChannel ask delayed establish reclaim mutualClose customerClose merchantClose dispute settle answer concluded ruling
   right-turns = record {
     unsound = unsound;
     other-layout = other-layout;
@@ -136,11 +152,22 @@ module _ (check : List ℕ → List ℕ → List ℕ → Verdict) (hash : List �
       deadline = λ d. refl;
       kept = λ d. refl;
       lock = λ d. refl;
+      leaves = λ d. refl;
     };
     reclaims = λ v ch g e. let z : 0 + v .steps ≡ v .steps = omega arith in rw (e, g) (ap (λ (n : ℕ). refusal 12 n) z);
     unclosed-settled = λ at ch p q. rw (ne-eqb _ _ p, ne-eqb _ _ q);
     unclosed-disputed = λ at hashed v ch e. rw (ne-eqb _ _ e);
     lock-differs = λ at hashed v ch e t n. rw (e, lt-ltb _ _ t, same-ne _ _ n);
+    remembers = λ at v w ch. record {
+      merchant-closes = refl;
+      customer-closes = λ lock c b e. rw e;
+      customer-answers = λ lock c b e. rw e;
+      reclaims = refl;
+      agrees = λ c b. refl;
+      disputes = λ hashed. refl;
+    };
+    by-leaf = disputes-by-leaf;
+    answers-any = answers-any;
     delay-first = λ at customer merchant d ch e k n. rw (e, k, n);
     deposits = λ at customer merchant d ch e k f. record {
       none = λ c b. rw (e, k, f, c, b);

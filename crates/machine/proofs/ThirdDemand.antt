@@ -1,6 +1,6 @@
 -- The third demand, for every list.
 use mathlib.Core.Path.{_≡_, refl, sym, ap, subst, _∙_}
-use mathlib.Core.Bool.{Bool, true, false, cond, _&&_}
+use mathlib.Core.Bool.{Bool, true, false, cond, not, _&&_}
 use mathlib.Core.List.{List, [], _∷_}
 use Prim.Native.Nat.{ℕ, zero, suc, _≤_, _<_}
 use native.Mathlib.Omega.{arith}
@@ -9,14 +9,14 @@ use lib.Seq.{getD-set-same, getD-set-other}
 use lib.Dec.{eqb, leb, ltb}
 use borrow.Author.Tests.{eqb-true, eqb-false, leb-true, ltb-true, le-leb, lt-ltb, eq-eqb}
 use Rattle.sha256.specs.Digest.{sha256}
-use Rattle.machine.specs.Format.{opcode, size, time, place, delay}
-use Rattle.machine.specs.Book.{cents, limit, theMark, soundChannel, all, soundSetup, sound, noChannel, channel, reading, readChannel}
+use Rattle.machine.specs.Format.{opcode, size, time, place, delay, signatures, signature, message}
+use Rattle.machine.specs.Book.{cents, limit, theMark, soundChannel, all, soundSetup, sound, remembered, noChannel, channel, reading, readChannel}
 use Rattle.machine.specs.Checks.{Check, Verdict, clean, passed, judge}
 use Rattle.machine.specs.Opening.{Opening, openingChecks, setupOf, unused, fresh, opening}
 use Rattle.machine.specs.Rules.{delayed, establish, fundCustomer, fundMerchant, reclaim, mutualClose, customerClose, merchantClose, dispute, settle}
 use Rattle.machine.specs.Machine.{answer, Order, setClock, onChannel, shared, carried, contextOf, plans, plan, noPlan, planned, order, verdict, step}
 use Rattle.machine.specs.Real.{lmsVerdict}
-use Rattle.machine.specs.Ledger.{Entry, Event, accepted, ofChannel, clock, strings, ofNone, paidBy, nothing, entryAt, opcodes, tally, has, eventOf, Timely, Standing, recorded, after, Disputes, Accounted, ThirdDemand}
+use Rattle.machine.specs.Ledger.{Entry, Event, accepted, ofChannel, clock, strings, ofNone, paidBy, nothing, entryAt, opcodes, tally, has, eventOf, Timely, Standing, recorded, after, leafOf, Disputes, Accounted, ThirdDemand}
 use Rattle.machine.specs.declared.state.Channel.{Channel}
 use Rattle.machine.specs.declared.state.Setup.{Setup}
 use Rattle.machine.specs.declared.state.Book.{Book}
@@ -26,7 +26,8 @@ use Rattle.wire.proofs.Laws.{and-both, and-make, same-refl}
 use Rattle.machine.proofs.Laws.{clash}
 use Rattle.machine.proofs.Judging.{Passed, coded, judge-passed, passed-judge}
 use Rattle.machine.proofs.Plans.{each-plan}
-use Rattle.machine.proofs.Life.{Stage}
+use Rattle.machine.proofs.Life.{Basis, Stage}
+use Rattle.machine.proofs.Leaves.{unremembered}
 use Rattle.machine.proofs.Moves.{next, moves, Once, once-on, one-of}
 use Rattle.machine.proofs.Facts.{Facts, stage-facts}
 
@@ -55,7 +56,11 @@ unpaid-on e h f u (suc i) p n = u i (omega (arith, p)) n
 
 -- ---- the book agrees with its history
 
-record Agrees (o : Opening) (t : Standing) : Type 0 where
+-- What the strings are read by: the book's setup, and the leaf that the check hands back.
+abbrev basisOf : (List ℕ → List ℕ → List ℕ → Verdict) → Book → Basis
+basisOf check b = record { setup = b .setup; leaf = λ key op s. (check key (message (signatures op) (b .id) s) (signature (signatures op) s)) .leaf }
+
+record Agrees (check : List ℕ → List ℕ → List ℕ → Verdict) (o : Opening) (t : Standing) : Type 0 where
   mark : t .book .mark ≡ theMark
   same : t .book .id ≡ o .id
   setup : t .book .setup ≡ setupOf (o .settings)
@@ -63,7 +68,7 @@ record Agrees (o : Opening) (t : Standing) : Type 0 where
   now : t .book .clock .0 ≡ clock (t .history)
   early : t .book .clock .0 ≤ limit
   many : length (t .book .channels) ≡ 64
-  stage : (n : ℕ) → n < 64 → Stage (t .book .setup) (strings n (t .history)) (channel (t .book) n)
+  stage : (n : ℕ) → n < 64 → Stage (basisOf check (t .book)) (strings n (t .history)) (channel (t .book) n)
   idle : Unpaid (t .history)
   once : (n : ℕ) → n < 64 → Once (strings n (t .history))
 
@@ -81,8 +86,8 @@ module _ (h : List Entry) (e : Entry) (yes : accepted e ≡ true) where
 abbrev granted : Order → ℕ → Stepped
 granted o steps = record { book = o .book; answer = record { refusal = 0; customer = o .pays .customer; merchant = o .pays .merchant; steps = steps } }
 
-module _ (o : Opening) (t : Standing) (i : Agrees o t) where
-  facts : (n : ℕ) → n < 64 → Facts (t .book .setup) (strings n (t .history)) (channel (t .book) n)
+module _ (check : List ℕ → List ℕ → List ℕ → Verdict) (o : Opening) (t : Standing) (i : Agrees check o t) where
+  facts : (n : ℕ) → n < 64 → Facts (basisOf check (t .book)) (strings n (t .history)) (channel (t .book) n)
   facts n p = stage-facts _ _ _ _ refl (i .stage n p)
 
   sound-book : sound (t .book) ≡ true
@@ -90,7 +95,7 @@ module _ (o : Opening) (t : Standing) (i : Agrees o t) where
   sound-book = and-make (and-make (and-make (eq-eqb _ _ (i .mark)) (le-leb _ _ (i .early))) (i .fixed)) (all-of soundChannel noChannel (t .book .channels) (λ n p. (facts n (omega (arith, i .many))) .sound))
 
   module _ (s : List ℕ) where
-    refused-agrees : (code steps : ℕ) → eqb code 0 ≡ false → Agrees o (recorded t s (record { book = t .book; answer = record { refusal = code; customer = cents 0; merchant = cents 0; steps = steps } }))
+    refused-agrees : (code steps : ℕ) → eqb code 0 ≡ false → Agrees check o (recorded t s (record { book = t .book; answer = record { refusal = code; customer = cents 0; merchant = cents 0; steps = steps } }))
     unfolding strings clock
     refused-agrees code steps z = record {
       mark = i .mark;
@@ -105,7 +110,7 @@ module _ (o : Opening) (t : Standing) (i : Agrees o t) where
       idle = unpaid-on _ (t .history) (λ _. refl) (i .idle);
     }
 
-    clock-agrees : (steps : ℕ) → opcode s ≡ 1 → Passed ((setClock (t .book) (time s)) .checks) → Agrees o (recorded t s (granted (setClock (t .book) (time s)) steps))
+    clock-agrees : (steps : ℕ) → opcode s ≡ 1 → Passed ((setClock (t .book) (time s)) .checks) → Agrees check o (recorded t s (granted (setClock (t .book) (time s)) steps))
     unfolding strings clock
     clock-agrees steps e p =
         let q = and-both (leb (t .book .clock .0) (time s)) _ (p .0) in
@@ -122,12 +127,12 @@ module _ (o : Opening) (t : Standing) (i : Agrees o t) where
           idle = unpaid-on _ (t .history) (λ _. refl) (i .idle);
         }
 
-    module _ (check : List ℕ → List ℕ → List ℕ → Verdict) (hash : List ℕ → List ℕ) where
+    module _ (hash : List ℕ → List ℕ) where
       abbrev named : Order
       named = onChannel (t .book) (place s) (planned check hash (t .book) s)
 
-      channel-agrees : (steps : ℕ) → eqb (opcode s) 1 ≡ false → ofChannel s ≡ true → Passed (named .checks) → Agrees o (recorded t s (granted named steps))
-      unfolding clock
+      channel-agrees : (steps : ℕ) → eqb (opcode s) 1 ≡ false → ofChannel s ≡ true → Passed (named .checks) → Agrees check o (recorded t s (granted named steps))
+      unfolding clock verdict
       channel-agrees steps u c p = record {
         mark = i .mark;
         same = i .same;
@@ -153,11 +158,11 @@ module _ (o : Opening) (t : Standing) (i : Agrees o t) where
           l : List Event
           l = strings (place s) (t .history)
 
-          go : Stage (t .book .setup) (next l s (r .answer) (clock (t .history)) ∷ l) ((planned check hash (t .book) s) .channel) × (has (opcode s) l ≡ false)
-          go = moves l s (r .answer) (clock (t .history)) (channel (t .book) (place s)) (contextOf (t .book)) (i .fixed) (sym (i .now)) check hash (opcode s) refl (p .1) refl refl (i .stage (place s) lt)
+          go : Stage (basisOf check (t .book)) (next l s (r .answer) (clock (t .history)) ∷ l) ((planned check hash (t .book) s) .channel) × (has (opcode s) l ≡ false)
+          go = moves l s (r .answer) (clock (t .history)) (channel (t .book) (place s)) (contextOf (t .book)) (i .fixed) (sym (i .now)) ((basisOf check (t .book)) .leaf) check hash (λ op. refl) (opcode s) refl (p .1) refl refl (i .stage (place s) lt)
 
           Q : ℕ → Channel → Type 0
-          Q n ch = n < 64 → Stage (t .book .setup) (strings n (e ∷ t .history)) ch × Once (strings n (e ∷ t .history))
+          Q n ch = n < 64 → Stage (basisOf check (t .book)) (strings n (e ∷ t .history)) ch × Once (strings n (e ∷ t .history))
 
           each : (n : ℕ) → Q n (channel (r .book) n)
           each = set-each Q noChannel (t .book .channels) (place s) ((planned check hash (t .book) s) .channel) (omega (arith, lt, i .many))
@@ -175,31 +180,31 @@ module _ (o : Opening) (t : Standing) (i : Agrees o t) where
           go true = refl
           go false = each-plan (λ p. coded (p .checks)) (noPlan (channel (t .book) (place s))) (plans check hash (contextOf (t .book)) s (channel (t .book) (place s))) refl (opcode s) (λ _. refl)
 
-      granted-agrees : (steps : ℕ) → Passed checksOf → Agrees o (recorded t s (granted (order check hash (t .book) s) steps))
+      granted-agrees : (steps : ℕ) → Passed checksOf → Agrees check o (recorded t s (granted (order check hash (t .book) s) steps))
       granted-agrees steps p = go (eqb (opcode s) 1) refl (p .1 .1 .1)
         where
-          go : (x : Bool) → eqb (opcode s) 1 ≡ x → Passed ((cond x (setClock (t .book) (time s)) named) .checks) → Agrees o (recorded t s (granted (cond x (setClock (t .book) (time s)) named) steps))
+          go : (x : Bool) → eqb (opcode s) 1 ≡ x → Passed ((cond x (setClock (t .book) (time s)) named) .checks) → Agrees check o (recorded t s (granted (cond x (setClock (t .book) (time s)) named) steps))
           go true z q = clock-agrees steps (eqb-true _ _ z) q
           go false z q =
               let k = and-both (leb 1 (opcode s)) (leb (opcode s) 10) (p .1 .0) in
               channel-agrees steps z (and-make (le-leb 2 (opcode s) (omega (arith, leb-true 1 (opcode s) (k .0), eqb-false (opcode s) 1 z))) (k .1)) q
 
-      step-agrees : Agrees o (recorded t s (step check hash (t .book) s))
+      step-agrees : Agrees check o (recorded t s (step check hash (t .book) s))
       unfolding step answer
       step-agrees = go (passed j) refl
         where
           j : Judged
           j = judge clean checksOf
 
-          go : (x : Bool) → passed j ≡ x → Agrees o (recorded t s (carried j (t .book) (order check hash (t .book) s)))
+          go : (x : Bool) → passed j ≡ x → Agrees check o (recorded t s (carried j (t .book) (order check hash (t .book) s)))
           go true z = rw z (rw (eqb-true (j .refusal) 0 z) (granted-agrees (j .steps) ((judge-passed checksOf clean coded-checks (eqb-true (j .refusal) 0 z)) .1)))
           go false z = rw z (refused-agrees (j .refusal) (j .steps) z)
 
 -- ---- from the opening on
 
-fresh-agrees : (o : Opening) → soundSetup (setupOf (o .settings)) ≡ true → Agrees o (record { book = fresh o; history = [] })
+fresh-agrees : (check : List ℕ → List ℕ → List ℕ → Verdict) (o : Opening) → soundSetup (setupOf (o .settings)) ≡ true → Agrees check o (record { book = fresh o; history = [] })
 unfolding fresh strings clock opcodes tally
-fresh-agrees o e = record {
+fresh-agrees check o e = record {
   mark = refl;
   same = refl;
   setup = refl;
@@ -207,43 +212,45 @@ fresh-agrees o e = record {
   now = refl;
   early = omega arith;
   many = length-replicate 64 unused;
-  stage = λ n p. subst (Stage (setupOf (o .settings)) []) (sym (getD-replicate 64 n unused noChannel p)) refl;
+  stage = λ n p. subst (Stage (basisOf check (fresh o)) []) (sym (getD-replicate 64 n unused noChannel p)) refl;
   idle = λ i p. let z : ⊥ = omega (arith, p) in absurd z;
   once = λ n p i. omega arith;
 }
 
 module _ (check : List ℕ → List ℕ → List ℕ → Verdict) (hash : List ℕ → List ℕ) where
-  after-agrees : (o : Opening) (t : Standing) (l : List (List ℕ)) → Agrees o t → Agrees o (after check hash t l)
+  after-agrees : (o : Opening) (t : Standing) (l : List (List ℕ)) → Agrees check o t → Agrees check o (after check hash t l)
   unfolding after
   after-agrees o t [] i = i
-  after-agrees o t (s ∷ l) i = after-agrees o (recorded t s (step check hash (t .book) s)) l (step-agrees o t i s check hash)
+  after-agrees o t (s ∷ l) i = after-agrees o (recorded t s (step check hash (t .book) s)) l (step-agrees check o t i s hash)
 
-  module _ (o : Opening) (t : Standing) (i : Agrees o t) (n : ℕ) (p : n < 64) where
-    dispute-passes : Timely o (strings n (t .history)) (clock (t .history)) → (d : List ℕ) → Disputes check hash o n (strings n (t .history)) d → Passed (checksOf o t i d check hash)
+  module _ (o : Opening) (t : Standing) (i : Agrees check o t) (n : ℕ) (p : n < 64) where
+    dispute-passes : Timely o (strings n (t .history)) (clock (t .history)) → (d : List ℕ) → Disputes check hash o n (strings n (t .history)) d → Passed (checksOf check o t i d hash)
     unfolding plan dispute verdict
     dispute-passes w d v =
-        let m = (facts o t i n p) .timely (w .closing) (w .undisputed) (w .unsettled) in
+        let m = (facts check o t i n p) .timely (w .closing) (w .undisputed) (w .unsettled) in
         let c = channel (t .book) n in
         let early : t .book .clock .0 < c .deadline .0 = omega (arith, m .1 .closing .due, m .1 .terms .delays ∙ ap (λ (x : Setup). delayed (x .delay) (delay ((eventOf 2 (strings n (t .history))) .string))) (i .setup), w .early, i .now) in
-        rw (v .code, v .named) (sound-book o t i, (refl, (eq-eqb (length d) (size 9) (v .whole), (lt-ltb n 64 p, (eq-eqb (c .status) 5 (m .0), (lt-ltb _ _ early, (rw (v .opens, m .1 .closing .lock′) (same-refl _), (rw (i .same, m .1 .terms .signer) (v .good), tt))))))))
+        let free : remembered (leafOf check o (strings n (t .history)) 9 d) c ≡ false = unremembered (leafOf check o (strings n (t .history))) (strings n (t .history)) c (rw (i .same) at (m .1 .leaves)) d (v .unspent) in
+        rw (v .code, v .named) (sound-book check o t i, (refl, (eq-eqb (length d) (size 9) (v .whole), (lt-ltb n 64 p, (eq-eqb (c .status) 5 (m .0), (lt-ltb _ _ early, (rw (v .opens, m .1 .closing .lock′) (same-refl _), (rw (i .same, m .1 .terms .signer) (v .good), (rw (i .same, m .1 .terms .signer) (ap not free), tt)))))))))
 
     kept : Accounted check hash o (t .book) (t .history) n (strings n (t .history))
     unfolding reading readChannel step answer
     kept =
-        let f = facts o t i n p in
-        let u : reading (t .book) n ≡ readChannel (channel (t .book) n) = rw (sound-book o t i, lt-ltb n 64 p) in
+        let f = facts check o t i n p in
+        let u : reading (t .book) n ≡ readChannel (channel (t .book) n) = rw (sound-book check o t i, lt-ltb n 64 p) in
         record {
           read = rw u;
           conserved = rw u (f .conserved);
           closes = rw u (f .closes);
           splits = f .splits;
           disputed = f .disputed;
+          leaf-once = rw (i .same) at (f .leaf-once);
           once = i .once n p;
           parted = one-of 6 7 (strings n (t .history)) (f .either) (i .once n p);
           single = f .single;
           begun = f .begun;
           elsewhere = i .idle;
-          dispute = λ w d v. passed-judge (checksOf o t i d check hash) clean (dispute-passes w d v) refl;
+          dispute = λ w d v. passed-judge (checksOf check o t i d hash) clean (dispute-passes w d v) refl;
         }
 
 -- An accepted opening: the book is fresh, and what it keeps is in its limits.
@@ -254,7 +261,7 @@ opened lent o e = let p = judge-passed (openingChecks o) clean refl e in (rw (eq
 pub third-demand : (check : List ℕ → List ℕ → List ℕ → Verdict) (hash : List ℕ → List ℕ) → ThirdDemand check hash
 third-demand check hash lent o e l n p =
     let q = opened lent o e in
-    rw (q .0) (kept check hash o _ (after-agrees check hash o _ l (fresh-agrees o (q .1))) n (omega (arith, p)))
+    rw (q .0) (kept check hash o _ (after-agrees check hash o _ l (fresh-agrees check o (q .1))) n (omega (arith, p)))
 
 -- Of the real machine.
 pub third-demand-met : ThirdDemand lmsVerdict sha256

@@ -1,21 +1,23 @@
--- The starred figures, and those of document 02, No. 2: the rules by computing, the chain steps by the law of `lms`.
+-- The starred figures, and those of document 02, No. 2 and No. 5: the rules by computing, the chain steps by the law of `lms`.
 use mathlib.Core.Path.{refl}
 use mathlib.Core.List.{List}
 use Prim.Native.Nat.{ℕ}
+use native.Mathlib.Omega.{arith}
 use lib.ListN.{replicate}
 use Rattle.lms.specs.OneTime.{deficit}
 use Rattle.lms.proofs.StepLaw.{stepLaw}
 use Rattle.machine.specs.Book.{total, held, readChannel}
 use Rattle.machine.specs.Checks.{ask}
-use Rattle.machine.specs.Rules.{establish, fundCustomer, fundMerchant, reclaim, mutualClose, customerClose, dispute, settle}
+use Rattle.machine.specs.Rules.{establish, fundCustomer, fundMerchant, reclaim, mutualClose, customerClose, merchantClose, dispute, settle}
 use Rattle.machine.specs.Machine.{answer, concluded, ruling}
 use Rattle.machine.specs.Figures.{Figures}
+use Rattle.machine.specs.declared.state.Leaves.{Leaves}
 use Rattle.machine.specs.declared.state.Setup.{Setup}
 use Rattle.wire.proofs.Laws.{same-refl}
 
-pub figures : (key other lock id : List ℕ) (d x v w : ℕ) (setup : Setup) → Figures key other lock id d x v w setup
-unfolding deficit total held readChannel ask establish fundCustomer fundMerchant reclaim mutualClose customerClose dispute settle answer concluded ruling
-figures key other lock id d x v w setup = record {
+pub figures : (key other lock id : List ℕ) (d x v w q : ℕ) (used : Leaves) (setup : Setup) → Figures key other lock id d x v w q used setup
+unfolding deficit total held readChannel ask establish fundCustomer fundMerchant reclaim mutualClose customerClose merchantClose dispute settle answer concluded ruling
+figures key other lock id d x v w q used setup = record {
   funds-900 = refl;
   funds-899 = refl;
   funds-100 = refl;
@@ -23,7 +25,7 @@ figures key other lock id d x v w setup = record {
   agrees-601 = refl;
   wraps = refl;
   closes-at-1000 = refl;
-  disputes-at-4599 = rw (same-refl lock);
+  disputes-at-4599 = λ free. rw (same-refl lock, free);
   disputes-at-4600 = refl;
   settles-at-4599 = refl;
   settles-at-4600 = refl;
@@ -36,6 +38,14 @@ figures key other lock id d x v w setup = record {
   credits-more = λ fit. rw fit;
   sums-to-more = λ fit. rw fit;
   customer-alone = λ fit. rw fit;
+  disputes-with-7 = rw (same-refl lock);
+  steps-with-7 = rw (same-refl lock) (omega arith);
+  kept-with-7 = rw (same-refl lock);
+  disputes-with-9 = rw (same-refl lock);
+  disputes-with-8 = rw (same-refl lock);
+  answers-with-7 = refl;
+  disputes-with-0 = rw (same-refl lock);
+  disputes-with-free-0 = rw (same-refl lock);
   steps-of-FF = stepLaw .law (replicate 32 255) refl;
   steps-of-00 = stepLaw .law (replicate 32 0) refl;
 }

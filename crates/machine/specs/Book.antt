@@ -1,4 +1,5 @@
--- Document 01, "Book": T, held, soundness, readings; document 02, No. 1: the default that a sound book keeps in its range.
+-- Document 01, "Book": T, held, soundness, readings; document 02, No. 1: the default that a sound book keeps in its range; No. 5: the leaves
+-- that a channel remembers.
 use mathlib.Core.Bool.{Bool, true, cond, not, _&&_, _||_}
 use mathlib.Core.List.{List, [], _∷_}
 use Prim.Native.Nat.{ℕ, _+_, _-_, _^_}
@@ -7,6 +8,7 @@ use lib.Dec.{eqb, leb, ltb}
 use Rattle.machine.specs.declared.units.Cents.{Cents}
 use Rattle.machine.specs.declared.units.Seconds.{Seconds}
 use Rattle.machine.specs.declared.state.Party.{Party}
+use Rattle.machine.specs.declared.state.Leaves.{Leaves}
 use Rattle.machine.specs.declared.state.Channel.{Channel}
 use Rattle.machine.specs.declared.state.Setup.{Setup}
 use Rattle.machine.specs.declared.state.Book.{Book}
@@ -37,7 +39,7 @@ ranged d = leb shortest d && leb d longest
 
 -- The number of the book's layout: a landing that changes the book changes it.
 abbrev pub layout : ℕ
-layout = 3
+layout = 4
 
 -- The mark of a layout: "arbiter" in bytes, then its number.
 abbrev pub markOf : ℕ → ℕ
@@ -63,6 +65,13 @@ held ch =
     cond (eqb (ch .status) 2) (ch .customer .deposit .0)
     (cond (eqb (ch .status) 3 || eqb (ch .status) 4) (total ch)
     (cond (eqb (ch .status) 5) (ch .kept .0) 0))
+
+-- The merchant's leaves of the accepted 08 and 07; where there is one of the two, its leaf twice.
+abbrev pub leaves : ℕ → ℕ → Leaves
+leaves first second = record { first = first; second = second }
+
+abbrev pub remembered : ℕ → Channel → Bool
+remembered q ch = eqb q (ch .leaves .first) || eqb q (ch .leaves .second)
 
 -- Status 4, merchant closing, or 5, customer closing.
 abbrev pub closing : Channel → Bool
@@ -101,6 +110,7 @@ noChannel = record {
   delay = 0;
   status = 0;
   lock = [];
+  leaves = leaves 0 0;
 }
 
 abbrev pub channel : Book → ℕ → Channel

@@ -5,10 +5,11 @@ use Prim.Native.Nat.{ℕ, _+_}
 use lib.Dec.{eqb}
 use Rattle.machine.specs.declared.answers.Judged.{Judged}
 
--- What a signature check says: is the signature good, and how many chain steps were made.
+-- What a signature check says: is the signature good, how many chain steps were made, and the leaf of a good one.
 pub record Verdict : Type 0 where
   pub good : Bool
   pub steps : ℕ
+  pub leaf : ℕ
 
 -- A check has a number, which is the refusal where it says no. A signature check has a verdict.
 pub data Check : Type 0 where

@@ -1,15 +1,16 @@
 -- Document 01, "Figures at the edges": the starred rows, on the rules with verdicts given. Document 02, No. 2: rows of an account that only
--- the merchant funds.
+-- the merchant funds; No. 5: rows of disputes by their leaf.
 use mathlib.Core.Path.{_≡_}
-use mathlib.Core.Bool.{true}
+use mathlib.Core.Bool.{true, false}
 use mathlib.Core.List.{List}
 use Prim.Native.Nat.{ℕ, _-_, _^_}
 use lib.ListN.{replicate}
 use Rattle.lms.specs.OneTime.{stepCount}
-use Rattle.machine.specs.Book.{cents, seconds, party, readChannel}
+use Rattle.machine.specs.Book.{cents, seconds, party, remembered, readChannel}
 use Rattle.machine.specs.Checks.{Verdict}
-use Rattle.machine.specs.Rules.{Plan, keyed, establish, fundCustomer, fundMerchant, reclaim, mutualClose, customerClose, dispute, settle}
+use Rattle.machine.specs.Rules.{Plan, keyed, establish, fundCustomer, fundMerchant, reclaim, mutualClose, customerClose, merchantClose, dispute, settle}
 use Rattle.machine.specs.Machine.{ruling}
+use Rattle.machine.specs.declared.state.Leaves.{Leaves}
 use Rattle.machine.specs.declared.state.Channel.{Channel}
 use Rattle.machine.specs.declared.state.Context.{Context}
 use Rattle.machine.specs.declared.state.Setup.{Setup}
@@ -42,11 +43,16 @@ shown r =
 abbrev pub by : (Channel → Plan) → Channel → Row
 by rule ch = shown (ruling ch (rule ch))
 
-abbrev pub good : ℕ → Verdict
-good steps = record { good = true; steps = steps }
+abbrev pub good : ℕ → ℕ → Verdict
+good steps leaf = record { good = true; steps = steps; leaf = leaf }
 
--- With any keys and lock, any deadline d and kept part x before a closing, any step counts v and w, and any id and setup of the book.
-module _ (key other lock id : List ℕ) (d x v w : ℕ) (setup : Setup) where
+-- The channel that a rule leaves.
+abbrev pub left : (Channel → Plan) → Channel → Channel
+left rule ch = (ruling ch (rule ch)) .channel
+
+-- With any keys and lock, any deadline d, kept part x and leaves before a closing, any step counts v and w, any leaf q where none is remembered
+-- or looked at, and any id and setup of the book.
+module _ (key other lock id : List ℕ) (d x v w q : ℕ) (used : Leaves) (setup : Setup) where
   -- A book whose clock shows this time.
   abbrev pub showing : ℕ → Context
   showing t = record { id = id; clock = seconds t; setup = setup }
@@ -61,6 +67,7 @@ module _ (key other lock id : List ℕ) (d x v w : ℕ) (setup : Setup) where
     deadline = seconds deadline;
     kept = cents kept;
     lock = lock;
+    leaves = used;
   }
 
   -- D_c 900, D_b 100.
@@ -75,20 +82,34 @@ module _ (key other lock id : List ℕ) (d x v w : ℕ) (setup : Setup) where
   abbrev pub Agreeing : ℕ → ℕ → Row → Type 0
   Agreeing customer merchant r = keyed key other ≡ true → by (establish (showing 1000) (party key customer) (party other merchant) 3600) (example 0 d x) ≡ r
 
+  -- A closing of either side at 1,000, and a dispute, with this leaf of the merchant.
+  abbrev pub merchantCloses : ℕ → Channel → Plan
+  merchantCloses leaf = merchantClose (showing 1000) (good v leaf)
+
+  abbrev pub closes : ℕ → Channel → Plan
+  closes leaf = customerClose (showing 1000) lock 700 300 (good v leaf) (good w q)
+
+  abbrev pub disputes : ℕ → ℕ → Channel → Plan
+  disputes t leaf = dispute (showing t) lock (good v leaf)
+
+  -- The customer's closing, with the second leaf, answers the merchant's, with the first.
+  abbrev pub answering : ℕ → ℕ → Channel
+  answering first second = left (closes second) (left (merchantCloses first) (example 3 d x))
+
   pub record Figures : Type 0 where
     pub funds-900 : by (fundCustomer 900) (example 1 d x) ≡ row 0 0 0 2 900 0
     pub funds-899 : by (fundCustomer 899) (example 1 d x) ≡ row 8 0 0 1 0 0
     pub funds-100 : by (fundMerchant 100) (example 2 d x) ≡ row 0 0 0 3 1000 0
-    pub agrees-600 : by (mutualClose 400 600 (good v) (good w)) (example 3 d x) ≡ row 0 400 600 6 0 0
-    pub agrees-601 : by (mutualClose 400 601 (good v) (good w)) (example 3 d x) ≡ row 8 0 0 3 1000 0
-    pub wraps : by (mutualClose (2 ^ 64 - 1) 1001 (good v) (good w)) (example 3 d x) ≡ row 8 0 0 3 1000 0
-    pub closes-at-1000 : by (customerClose (showing 1000) lock 700 300 (good v) (good w)) (example 3 d x) ≡ row 0 0 300 5 700 4600
-    pub disputes-at-4599 : by (dispute (showing 4599) lock (good v)) (example 5 4600 700) ≡ row 0 0 700 6 0 0
-    pub disputes-at-4600 : by (dispute (showing 4600) lock (good v)) (example 5 4600 700) ≡ row 9 0 0 5 700 4600
+    pub agrees-600 : by (mutualClose 400 600 (good v q) (good w q)) (example 3 d x) ≡ row 0 400 600 6 0 0
+    pub agrees-601 : by (mutualClose 400 601 (good v q) (good w q)) (example 3 d x) ≡ row 8 0 0 3 1000 0
+    pub wraps : by (mutualClose (2 ^ 64 - 1) 1001 (good v q) (good w q)) (example 3 d x) ≡ row 8 0 0 3 1000 0
+    pub closes-at-1000 : by (closes q) (example 3 d x) ≡ row 0 0 300 5 700 4600
+    pub disputes-at-4599 : remembered q (example 5 4600 700) ≡ false → by (disputes 4599 q) (example 5 4600 700) ≡ row 0 0 700 6 0 0
+    pub disputes-at-4600 : by (disputes 4600 q) (example 5 4600 700) ≡ row 9 0 0 5 700 4600
     pub settles-at-4599 : by (settle (showing 4599)) (example 5 4600 700) ≡ row 9 0 0 5 700 4600
     pub settles-at-4600 : by (settle (showing 4600)) (example 5 4600 700) ≡ row 0 700 0 6 0 0
     pub credits-100 : Agreeing 0 100 (row 0 0 0 2 0 0)
-    pub credits-reclaimed : by (reclaim (good v)) (credit 2 d x) ≡ row 0 0 0 6 0 0
+    pub credits-reclaimed : by (reclaim (good v q)) (credit 2 d x) ≡ row 0 0 0 6 0 0
     pub credits-funded : by (fundMerchant 100) (credit 2 d x) ≡ row 0 0 0 3 100 0
     pub credits-customer : by (fundCustomer 0) (credit 2 d x) ≡ row 5 0 0 2 0 0
     pub credits-nothing : Agreeing 0 0 (row 8 0 0 0 0 0)
@@ -96,5 +117,13 @@ module _ (key other lock id : List ℕ) (d x v w : ℕ) (setup : Setup) where
     pub credits-more : Agreeing 0 (2 ^ 63) (row 8 0 0 0 0 0)
     pub sums-to-more : Agreeing (2 ^ 63 - 1) 1 (row 8 0 0 0 0 0)
     pub customer-alone : Agreeing 900 0 (row 0 0 0 1 0 0)
+    pub disputes-with-7 : by (disputes 4599 7) (answering 7 9) ≡ row 16 0 0 5 700 4600
+    pub steps-with-7 : (ruling (answering 7 9) (disputes 4599 7 (answering 7 9))) .answer .steps ≡ v
+    pub kept-with-7 : left (disputes 4599 7) (answering 7 9) ≡ answering 7 9
+    pub disputes-with-9 : by (disputes 4599 9) (answering 7 9) ≡ row 16 0 0 5 700 4600
+    pub disputes-with-8 : by (disputes 4599 8) (answering 7 9) ≡ row 0 0 700 6 0 0
+    pub answers-with-7 : by (closes 7) (left (merchantCloses 7) (example 3 d x)) ≡ row 0 0 300 5 700 4600
+    pub disputes-with-0 : by (disputes 4599 0) (left (closes 0) (example 3 d x)) ≡ row 16 0 0 5 700 4600
+    pub disputes-with-free-0 : by (disputes 4599 0) (left (closes 9) (example 3 d x)) ≡ row 0 0 700 6 0 0
     pub steps-of-FF : stepCount (replicate 32 255) ≡ 510
     pub steps-of-00 : stepCount (replicate 32 0) ≡ 8415

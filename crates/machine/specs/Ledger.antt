@@ -1,5 +1,5 @@
--- Document 01, "What a closed channel paid" and the mission's third demand, with document 02, No. 1: its words, read from the opening, the
--- strings and their answers, and the one claim about the whole list.
+-- Document 01, "What a closed channel paid" and the mission's third demand, with document 02, No. 1 and No. 5: its words, read from the
+-- opening, the strings and their answers, and the one claim about the whole list.
 use mathlib.Core.Path.{_≡_}
 use mathlib.Core.Bool.{Bool, true, false, cond, not, _&&_, _||_}
 use mathlib.Core.List.{List, [], _∷_}
@@ -155,6 +155,12 @@ pub record Timely (o : Opening) (l : List Event) (now : ℕ) : Type 0 where
   pub unsettled : has 10 l ≡ false
   pub early : now < (eventOf 7 l) .clock + agreedDelay o l
 
+-- The leaf of a 09, given the merchant's leaf of each opcode's string, differs from that of the accepted 07 and, where there is one, of the
+-- accepted 08.
+pub record Unspent (leaf : ℕ → List ℕ → ℕ) (l : List Event) (d : List ℕ) : Type 0 where
+  pub of-07 : leaf 9 d ≡ leaf 7 ((eventOf 7 l) .string) → ⊥
+  pub of-08 : has 8 l ≡ true → leaf 9 d ≡ leaf 8 ((eventOf 8 l) .string) → ⊥
+
 -- ---- the claim
 
 -- The book and the history so far.
@@ -165,20 +171,30 @@ pub record Standing : Type 0 where
 abbrev pub recorded : Standing → List ℕ → Stepped → Standing
 recorded t s r = record { book = r .book; history = record { string = s; answer = r .answer } ∷ t .history }
 
+module _ (check : List ℕ → List ℕ → List ℕ → Verdict) where
+  -- What the signature check says of the merchant's signature in a string with this opcode, for his key in n's 02 and the signed message of
+  -- the string, with the id from the opening; and the leaf that it hands back.
+  abbrev pub byMerchant : Opening → List Event → ℕ → List ℕ → Verdict
+  byMerchant o l op s = check (merchantKey ((eventOf 2 l) .string)) (message (signatures op) (o .id) s) (signature (signatures op) s)
+
+  abbrev pub leafOf : Opening → List Event → ℕ → List ℕ → ℕ
+  leafOf o l op s = (byMerchant o l op s) .leaf
+
 module _ (check : List ℕ → List ℕ → List ℕ → Verdict) (hash : List ℕ → List ℕ) where
   -- A list of strings, each on the book that the one before left.
   unfoldable pub after : Standing → List (List ℕ) → Standing
   after t [] = t
   after t (s ∷ l) = after (recorded t s (step check hash (t .book) s)) l
 
-  -- The dispute: a 09 of whole length that names n; its secret hashes to the lock, and the signature check says yes to its signature for
-  -- the key of the merchant in n's 02 and the signed message of this 09, with the id from the opening.
+  -- The dispute: a 09 of whole length that names n; its secret hashes to the lock, the signature check says yes to its signature, and its
+  -- leaf is not that of the 07 or the 08.
   pub record Disputes (o : Opening) (n : ℕ) (l : List Event) (d : List ℕ) : Type 0 where
     pub code : opcode d ≡ 9
     pub whole : length d ≡ size 9
     pub named : place d ≡ n
     pub opens : hash (secret d) ≡ lock ((eventOf 7 l) .string)
-    pub good : (check (merchantKey ((eventOf 2 l) .string)) (message (signatures 9) (o .id) d) (signature (signatures 9) d)) .good ≡ true
+    pub good : (byMerchant check o l 9 d) .good ≡ true
+    pub unspent : Unspent (leafOf check o l) l d
 
   -- Of channel n of a book with this opening and history, where l are the strings of n.
   pub record Accounted (o : Opening) (b : Book) (h : List Entry) (n : ℕ) (l : List Event) : Type 0 where
@@ -189,6 +205,7 @@ module _ (check : List ℕ → List ℕ → List ℕ → Verdict) (hash : List �
     pub disputed : has 9 l ≡ true → paid l ≡ allMerchant l
     pub elsewhere : (i : ℕ) → i < length h → ofNone (entryAt h i) ≡ true → paidBy ((entryAt h i) .answer) ≡ nothing
     pub dispute : Timely o l (clock h) → (d : List ℕ) → Disputes o n l d → (step check hash b d) .answer .refusal ≡ 0
+    pub leaf-once : has 9 l ≡ true → Unspent (leafOf check o l) l ((eventOf 9 l) .string)
     -- its words are well said: no string without a 02, each command at most once, one of 06 and 07, one that closes
     pub begun : (k : ℕ) → has k l ≡ true → has 2 l ≡ true
     pub once : (k : ℕ) → count k l < 2

@@ -4,7 +4,7 @@ use mathlib.Core.List.{List, [], _∷_}
 use Prim.Native.Nat.{ℕ}
 use lib.ListN.{length, replicate}
 use lib.Dec.{eqb}
-use Rattle.machine.specs.Book.{cents, seconds, party, theMark, ranged}
+use Rattle.machine.specs.Book.{cents, seconds, party, theMark, ranged, leaves}
 use Rattle.machine.specs.Checks.{Check, test, clean, passed, judge}
 use Rattle.machine.specs.declared.state.Channel.{Channel}
 use Rattle.machine.specs.declared.state.Settings.{Settings}
@@ -53,6 +53,7 @@ unused = record {
   delay = 0;
   status = 0;
   lock = replicate 32 0;
+  leaves = leaves 0 0;
 }
 
 unfoldable pub fresh : Opening → Book

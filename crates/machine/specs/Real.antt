@@ -11,7 +11,8 @@ use Rattle.machine.specs.declared.answers.Stepped.{Stepped}
 -- A signed message is far below the check's limit of 1,024 bytes, so the check's own refusal is always 0.
 abbrev pub lmsVerdict : List ℕ → List ℕ → List ℕ → Verdict
 lmsVerdict key message signature =
-    record { good = (checkOf key message signature) .verdict; steps = (checkOf key message signature) .steps }
+    let r = checkOf key message signature in
+    record { good = r .verdict; steps = r .steps; leaf = r .leaf }
 
 abbrev pub realStep : Book → List ℕ → Stepped
 realStep b s = step lmsVerdict sha256 b s

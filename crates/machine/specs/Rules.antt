@@ -1,16 +1,17 @@
 -- Document 01, "Commands" and checks 5 to 12: for each of 02 to 0A its checks on the channel, in the paper's order, what becomes of the
 -- channel, and whom it pays. A rule takes what it reads of the book, the operands and the verdicts. Document 02, No. 1: a delay of 0; No. 2:
--- accounts that only the merchant funds.
+-- accounts that only the merchant funds; No. 5: a leaf counts once.
 use mathlib.Core.Bool.{Bool, cond, not, _&&_, _||_}
 use mathlib.Core.List.{List, [], _∷_}
 use Prim.Native.Nat.{ℕ, _+_}
 use lib.Dec.{eqb, leb, ltb}
 use Rattle.wire.specs.Parts.{same}
 use Rattle.lms.specs.Layout.{typedKey}
-use Rattle.machine.specs.Book.{cents, seconds, limit, ranged, total, closing}
+use Rattle.machine.specs.Book.{cents, seconds, limit, ranged, total, leaves, remembered, closing}
 use Rattle.machine.specs.Checks.{Check, test, signed, Verdict}
 use Rattle.machine.specs.declared.units.Cents.{Cents}
 use Rattle.machine.specs.declared.state.Party.{Party}
+use Rattle.machine.specs.declared.state.Leaves.{Leaves}
 use Rattle.machine.specs.declared.state.Channel.{Channel}
 use Rattle.machine.specs.declared.state.Context.{Context}
 
@@ -30,8 +31,8 @@ pub record Plan : Type 0 where
 
 -- ---- the channel with some values replaced: the others stay
 
-abbrev pub moved : Channel → ℕ → ℕ → ℕ → List ℕ → Channel
-moved ch status deadline kept lock = record {
+abbrev pub moved : Channel → ℕ → ℕ → ℕ → List ℕ → Leaves → Channel
+moved ch status deadline kept lock used = record {
   status = status;
   customer = ch .customer;
   merchant = ch .merchant;
@@ -39,10 +40,11 @@ moved ch status deadline kept lock = record {
   deadline = seconds deadline;
   kept = cents kept;
   lock = lock;
+  leaves = used;
 }
 
 abbrev pub become : ℕ → Channel → Channel
-become status ch = moved ch status (ch .deadline .0) (ch .kept .0) (ch .lock)
+become status ch = moved ch status (ch .deadline .0) (ch .kept .0) (ch .lock) (ch .leaves)
 
 -- ---- 02 establish
 
@@ -62,7 +64,8 @@ delayFits d = eqb d 0 || ranged d
 abbrev pub depositsFit : ℕ → ℕ → Bool
 depositsFit c b = leb (c + b) limit && leb 1 (c + b)
 
--- Status 1, or 2 where D_c is 0. The keys, the deposits, the delay and the status are named: deadline, kept part and lock stay.
+-- Status 1, or 2 where D_c is 0. The keys, the deposits, the delay and the status are named: deadline, kept part, lock and
+-- leaves stay.
 abbrev pub established : ℕ → Party → Party → ℕ → Channel → Channel
 established default customer merchant d ch = record {
   status = cond (eqb (customer .deposit .0) 0) 2 1;
@@ -72,6 +75,7 @@ established default customer merchant d ch = record {
   deadline = ch .deadline;
   kept = ch .kept;
   lock = ch .lock;
+  leaves = ch .leaves;
 }
 
 unfoldable pub establish : Context → Party → Party → ℕ → Channel → Plan
@@ -140,6 +144,10 @@ mutualClose c b byMerchant byCustomer ch = record {
 
 -- ---- 07 customer closes: pays the merchant b now, keeps c and the lock. From status 3 the deadline is not looked at
 
+-- Its leaf is remembered beside that of the 08 that it answers; from status 3 there is none.
+abbrev pub closingLeaves : ℕ → Channel → Leaves
+closingLeaves q ch = leaves (cond (eqb (ch .status) 3) q (ch .leaves .first)) q
+
 unfoldable pub customerClose : Context → List ℕ → ℕ → ℕ → Verdict → Verdict → Channel → Plan
 customerClose at lock c b byMerchant byCustomer ch = record {
   checks =
@@ -149,7 +157,7 @@ customerClose at lock c b byMerchant byCustomer ch = record {
       ∷ signed 11 byMerchant
       ∷ signed 12 byCustomer
       ∷ [];
-  channel = moved ch 5 (at .clock .0 + ch .delay) c lock;
+  channel = moved ch 5 (at .clock .0 + ch .delay) c lock (closingLeaves (byMerchant .leaf) ch);
   pays = pay 0 b;
 }
 
@@ -161,7 +169,7 @@ merchantClose at byMerchant ch = record {
       test 5 (eqb (ch .status) 3)
       ∷ signed 11 byMerchant
       ∷ [];
-  channel = moved ch 4 (at .clock .0 + ch .delay) (ch .kept .0) (ch .lock);
+  channel = moved ch 4 (at .clock .0 + ch .delay) (ch .kept .0) (ch .lock) (leaves (byMerchant .leaf) (byMerchant .leaf));
   pays = pay 0 0;
 }
 
@@ -174,6 +182,7 @@ dispute at hashed byMerchant ch = record {
       ∷ test 9 (ltb (at .clock .0) (ch .deadline .0))
       ∷ test 10 (same hashed (ch .lock))
       ∷ signed 11 byMerchant
+      ∷ test 16 (not (remembered (byMerchant .leaf) ch))
       ∷ [];
   channel = become 6 ch;
   pays = pay 0 (ch .kept .0);

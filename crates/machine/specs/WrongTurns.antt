@@ -8,11 +8,11 @@ use lib.Dec.{ltb}
 use lib.ListN.{length, getD}
 use Rattle.lms.specs.Layout.{typedKey}
 use Rattle.machine.specs.Format.{opcode}
-use Rattle.machine.specs.Book.{cents, seconds, limit, layout, markOf, sound, noReading, readChannel, reading}
+use Rattle.machine.specs.Book.{cents, seconds, limit, layout, markOf, total, leaves, sound, noReading, readChannel, reading}
 use Rattle.machine.specs.Checks.{Verdict, Check, numberOf}
 use Rattle.machine.specs.Opening.{Opening, fresh, opening}
 use Rattle.machine.specs.Due.{none, due}
-use Rattle.machine.specs.Rules.{Plan, keyed, delayFits, establish, reclaim, customerClose, dispute, settle}
+use Rattle.machine.specs.Rules.{Plan, keyed, delayFits, establish, reclaim, mutualClose, customerClose, merchantClose, dispute, settle}
 use Rattle.machine.specs.Machine.{ruling, formed, order, step}
 use Rattle.machine.specs.declared.state.Party.{Party}
 use Rattle.machine.specs.declared.state.Channel.{Channel}
@@ -48,12 +48,32 @@ pub record Establishes (at : Context) (customer merchant : Party) (ch : Channel)
   pub deadline : (d : ℕ) → ((establish at customer merchant d ch) .channel) .deadline ≡ ch .deadline
   pub kept : (d : ℕ) → ((establish at customer merchant d ch) .channel) .kept ≡ ch .kept
   pub lock : (d : ℕ) → ((establish at customer merchant d ch) .channel) .lock ≡ ch .lock
+  pub leaves : (d : ℕ) → ((establish at customer merchant d ch) .channel) .leaves ≡ ch .leaves
 
 -- A 02 that passes all checks before 8: refused with 8 where both deposits are 0 or their sum is above 2^63 - 1, else accepted.
 pub record Deposits (at : Context) (customer merchant : Party) (d : ℕ) (ch : Channel) : Type 0 where
   pub none : customer .deposit .0 ≡ 0 → merchant .deposit .0 ≡ 0 → answered ch (establish at customer merchant d ch) ≡ refusal 8 0
   pub large : limit < customer .deposit .0 + merchant .deposit .0 → answered ch (establish at customer merchant d ch) ≡ refusal 8 0
   pub some : 1 ≤ customer .deposit .0 + merchant .deposit .0 → customer .deposit .0 + merchant .deposit .0 ≤ limit → answered ch (establish at customer merchant d ch) ≡ refusal 0 0
+
+-- The merchant's leaf of an 08 is remembered alone, and so is that of a 07 that answers none; a 07 that answers an 08 keeps the 08's beside its
+-- own. No other command remembers a leaf.
+pub record RemembersLeaves (at : Context) (v w : Verdict) (ch : Channel) : Type 0 where
+  pub merchant-closes : ((merchantClose at v ch) .channel) .leaves ≡ leaves (v .leaf) (v .leaf)
+  pub customer-closes : (lock : List ℕ) (c b : ℕ) → ch .status ≡ 3 → ((customerClose at lock c b v w ch) .channel) .leaves ≡ leaves (v .leaf) (v .leaf)
+  pub customer-answers : (lock : List ℕ) (c b : ℕ) → ch .status ≡ 4 → ((customerClose at lock c b v w ch) .channel) .leaves ≡ leaves (ch .leaves .first) (v .leaf)
+  pub reclaims : ((reclaim v ch) .channel) .leaves ≡ ch .leaves
+  pub agrees : (c b : ℕ) → ((mutualClose c b v w ch) .channel) .leaves ≡ ch .leaves
+  pub disputes : (hashed : List ℕ) → ((dispute at hashed v ch) .channel) .leaves ≡ ch .leaves
+
+-- A dispute in time whose hash is the lock: a bad signature is refused with 11, whatever leaf its verdict has; a good one with 16 where its
+-- leaf is remembered, and its chain steps count; else it pays the kept part.
+pub record DisputesByLeaf (at : Context) (hashed : List ℕ) (v : Verdict) (ch : Channel) : Type 0 where
+  pub bad : v .good ≡ false → answered ch (dispute at hashed v ch) ≡ refusal 11 (v .steps)
+  pub first : v .good ≡ true → v .leaf ≡ ch .leaves .first → answered ch (dispute at hashed v ch) ≡ refusal 16 (v .steps)
+  pub second : v .good ≡ true → v .leaf ≡ ch .leaves .second → answered ch (dispute at hashed v ch) ≡ refusal 16 (v .steps)
+  pub other : v .good ≡ true → (v .leaf ≡ ch .leaves .first → ⊥) → (v .leaf ≡ ch .leaves .second → ⊥)
+      → answered ch (dispute at hashed v ch) ≡ record { customer = cents 0; merchant = ch .kept; steps = v .steps; refusal = 0 }
 
 abbrev pub notOpened : Book → ℕ → Opened
 notOpened lent r = record { book = lent; refusal = r }
@@ -93,6 +113,11 @@ module _ (check : List ℕ → List ℕ → List ℕ → Verdict) (hash : List �
     pub unclosed-disputed : (at : Context) (hashed : List ℕ) (v : Verdict) (ch : Channel) → (ch .status ≡ 5 → ⊥) → answered ch (dispute at hashed v ch) ≡ refusal 5 0
     -- A dispute in time whose hash is not the lock is refused with 10, and its signature is not looked at.
     pub lock-differs : (at : Context) (hashed : List ℕ) (v : Verdict) (ch : Channel) → ch .status ≡ 5 → at .clock .0 < ch .deadline .0 → (hashed ≡ ch .lock → ⊥) → answered ch (dispute at hashed v ch) ≡ refusal 10 0
+    pub remembers : (at : Context) (v w : Verdict) (ch : Channel) → RemembersLeaves at v w ch
+    pub by-leaf : (at : Context) (hashed : List ℕ) (v : Verdict) (ch : Channel) → ch .status ≡ 5 → at .clock .0 < ch .deadline .0 → hashed ≡ ch .lock → DisputesByLeaf at hashed v ch
+    -- A 07 that answers in time, with the right parts and good signatures, is accepted whatever its leaf.
+    pub answers-any : (at : Context) (c b : ℕ) (lock : List ℕ) (v w : Verdict) (ch : Channel) → ch .status ≡ 4 → at .clock .0 < ch .deadline .0 → c + b ≡ total ch → v .good ≡ true → w .good ≡ true
+        → (answered ch (customerClose at lock c b v w ch)) .refusal ≡ 0
     -- A 02 whose delay is out of range is refused with 7, whatever its deposits.
     pub delay-first : (at : Context) (customer merchant : Party) (d : ℕ) (ch : Channel) → ch .status ≡ 0 → keyed (customer .key) (merchant .key) ≡ true → delayFits d ≡ false → answered ch (establish at customer merchant d ch) ≡ refusal 7 0
     pub deposits : (at : Context) (customer merchant : Party) (d : ℕ) (ch : Channel) → ch .status ≡ 0 → keyed (customer .key) (merchant .key) ≡ true → delayFits d ≡ true → Deposits at customer merchant d ch

@@ -19,6 +19,12 @@ pub struct Judged {
     pub steps: u32,
 }
 
+// The same after a signature check, and the leaf that it handed back: 0 where it was not made.
+pub struct Sealed {
+    pub judged: Judged,
+    pub leaf: u32,
+}
+
 // What a command makes of its channel, and its answer.
 pub struct Ruled {
     pub channel: Channel,

@@ -9,6 +9,13 @@ pub struct Party {
     pub deposit: Cents,
 }
 
+// The merchant's leaves that a channel remembers, one for each closing: both are the same where there is one.
+#[repr(C)]
+pub struct Leaves {
+    pub first: u32,
+    pub second: u32,
+}
+
 // The customer is document 01's café, the merchant its bakery. A customer's closing keeps its part and the lock here.
 #[repr(C)]
 pub struct Channel {
@@ -19,6 +26,7 @@ pub struct Channel {
     pub delay: u32,
     pub status: u32,
     pub lock: [u8; 32],
+    pub leaves: Leaves,
 }
 
 // What an opening is given: the delay that a 0 in a 02 stands for.

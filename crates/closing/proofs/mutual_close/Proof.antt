@@ -11,7 +11,7 @@ signature-tested-requires-2 c κs =
     let c₄ = c .before .before .before .before in
     let c₆ = c₄ .before .before in
     let c₁₃ = c₆ .before .before .before .before .before .before .before in
-    omega (arith, c .signature-tested .ensures .1, c .before .tested2 .ensures .1, c₄ .tested .ensures .1, c₆ .unjudged .ensures .1, c₁₃ .pre .1)
+    omega (arith, c .signature-tested .ensures .1 .0, c .before .tested2 .ensures .1, c₄ .tested .ensures .1, c₆ .unjudged .ensures .1, c₁₃ .pre .1)
 
 returns : tie.Need-returns
 unfolding ruling mutualClose

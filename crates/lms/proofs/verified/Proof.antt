@@ -1,6 +1,6 @@
 -- The parts of the check, put together.
 use Prim.Native.Nat.{ℕ, _+_}
-use mathlib.Core.Bool.{Bool}
+use mathlib.Core.Bool.{Bool, cond}
 use mathlib.Core.Path.{_≡_, ap}
 use mathlib.Core.List.{List}
 use borrow.Author.Needs.{needs}
@@ -14,16 +14,17 @@ use Rattle.lms.specs.Check.{verifiedOf}
 use Rattle.lms.proofs.verified.Statement.{statement}
 use Rattle.lms.proofs.verified.Tie as tie
 
-together : (key message signature I C Q k x top r : List ℕ) (q steps : ℕ) (p : List (List ℕ)) (v : Bool)
+together : (key message signature I C Q k x top r : List ℕ) (q steps handed : ℕ) (p : List (List ℕ)) (v : Bool)
     → I ≡ identifier key → q ≡ leaf signature → C ≡ nonce signature → Q ≡ messageHash I q C message → k ≡ leafKey I q Q signature → steps ≡ stepCount Q
-    → x ≡ leafNode I (1024 + q) k → p ≡ path signature → top ≡ climb I (1024 + q) x p 10 → r ≡ root key → v ≡ same top r
-    → _≡_ {A = Checked} (record { refusal = 0; verdict = v; steps = steps }) (verifiedOf key message signature)
+    → x ≡ leafNode I (1024 + q) k → p ≡ path signature → top ≡ climb I (1024 + q) x p 10 → r ≡ root key → v ≡ same top r → handed ≡ cond v q 0
+    → _≡_ {A = Checked} (record { refusal = 0; verdict = v; steps = steps; leaf = handed }) (verifiedOf key message signature)
 unfolding verifiedOf
-together key message signature I C Q k x top r q steps p v eI eq eC eQ ek es ex ep et er ev = cc
+together key message signature I C Q k x top r q steps handed p v eI eq eC eQ ek es ex ep et er ev eh = cc
 
 returns : tie.Need-returns
 returns c =
-    let at-root = c .before in
+    let at-same = c .before in
+    let at-root = at-same .before in
     let at-top = at-root .before in
     let at-path = at-top .before in
     let at-node = at-path .before in
@@ -33,9 +34,9 @@ returns c =
     let at-leaf = at-nonce .before in
     let at-id = at-leaf .before in
     let a = at-id .before .before .before .before .args in
-    together (a .key .now) (a .message .now) (a .signature .now) _ _ _ _ _ _ _ _ _ _ _ (at-id .id-at .ensures) (at-leaf .u32-at .ensures) (at-nonce .digest-at .ensures)
+    together (a .key .now) (a .message .now) (a .signature .now) _ _ _ _ _ _ _ _ _ _ _ _ (at-id .id-at .ensures) (at-leaf .u32-at .ensures) (at-nonce .digest-at .ensures)
     (at-hash .message-hash .ensures) (ap (λ (w : Walked). w .key) (at-walk .leaf-key .ensures)) (ap (λ (w : Walked). w .steps) (at-walk .leaf-key .ensures))
-    (at-node .leaf-node .ensures) (at-path .path-of .ensures) (at-top .climbed .ensures) (at-root .digest-at2 .ensures) (c .same-digest .ensures)
+    (at-node .leaf-node .ensures) (at-path .path-of .ensures) (at-top .climbed .ensures) (at-root .digest-at2 .ensures) (at-same .same-digest .ensures) (c .leaf-if .ensures)
 
 pub verified-spec : {M : Type 1} → statement M
 verified-spec =
@@ -51,5 +52,6 @@ verified-spec =
     (λ c κs. search needs)
     (λ c κs. tt)
     (λ c κs. search needs)
+    (λ c κs. tt)
     (λ c κs. tt)
     returns)
