@@ -3,6 +3,7 @@
 It shares nothing with the library: what it makes tries the library from outside.
 """
 import hashlib, struct
+from itertools import zip_longest
 
 
 def H(*parts):
@@ -60,9 +61,10 @@ class Signer:
         ends = [walk(self.prefix(q, i), 0, 255, self.string(q, i)) for i in range(34)]
         return H(self.I, u32(q), b"\x80\x80", *ends)
 
-    def sign(self, message, least=0):
-        """A signature whose check takes at least so many chain steps."""
-        q, self.leaf = self.leaf, self.leaf + 1
+    def sign(self, message, least=0, leaf=None):
+        """A signature whose check takes at least so many chain steps, with this leaf, or with the next one."""
+        q = self.leaf if leaf is None else leaf
+        self.leaf += leaf is None
         C = H(b"C", self.seed, u32(q))
         while step_count(digits(self.I, message, u32(q), C)) < least:
             C = H(C)
@@ -90,10 +92,10 @@ def settle(n):
     return b"\x0a" + u16(n)
 
 
-def signed(op, id, n, operands, *signers, least=0):
-    """A command with the signatures of its signers, in their order, each of at least so many steps."""
+def signed(op, id, n, operands, *signers, least=0, leaves=()):
+    """A command with the signatures of its signers, in their order, each of at least so many steps and with the leaf named for it, if one is."""
     message = bytes([op]) + id + u16(n) + operands
-    return bytes([op]) + u16(n) + operands + b"".join(signer.sign(message, least) for signer in signers)
+    return bytes([op]) + u16(n) + operands + b"".join(signer.sign(message, least, leaf) for signer, leaf in zip_longest(signers, leaves))
 
 
 # Where the first signature of a command stands.

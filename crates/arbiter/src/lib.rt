@@ -17,6 +17,7 @@ pub use machine::Book;
 pub use machine::Cents;
 pub use machine::Channel;
 pub use machine::Found;
+pub use machine::Leaves;
 pub use machine::Opened;
 pub use machine::Party;
 pub use machine::Reading;

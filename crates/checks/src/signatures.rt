@@ -41,10 +41,7 @@ pub fn signature_tested(
     ensures { λ r. ⌜ r .leaf ≡ cond (passed j) ((verdict lmsVerdict key id (now (command .entry)) end at) .leaf) 0 ⌝ }
 {
     if j.refusal != 0 {
-        return Sealed {
-            judged: j,
-            leaf: 0,
-        };
+        return Sealed { judged: j, leaf: 0 };
     }
     let buffer = signed_message(id, command, end);
     let checked = check(&key, &buffer[..end + 16], &command[at..at + 1452]);

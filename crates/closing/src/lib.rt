@@ -39,15 +39,7 @@ pub fn mutual_close(ch: Channel, at: Context, command: &[u8]) -> Ruled
     let j = tested(unjudged(), 5, ch.status == 3);
     let j = tested(j, 8, sums_to(customer, merchant, total_of(ch)));
     let by_merchant = signature_tested(j, 11, merchant_key, id, command, 19, 19);
-    let by_customer = signature_tested(
-        by_merchant.judged,
-        12,
-        customer_key,
-        id,
-        command,
-        19,
-        1471,
-    );
+    let by_customer = signature_tested(by_merchant.judged, 12, customer_key, id, command, 19, 1471);
     let mut after = ch;
     after.status = 6;
     ruled(by_customer.judged, ch, after, customer, merchant)
@@ -97,15 +89,7 @@ pub fn customer_close(ch: Channel, at: Context, command: &[u8]) -> Ruled
     let j = tested(j, 8, sums_to(customer, merchant, total_of(ch)));
     let j = tested(j, 9, (ch.status == 3) | (at.clock.0 < ch.deadline.0));
     let by_merchant = signature_tested(j, 11, merchant_key, id, command, 51, 51);
-    let by_customer = signature_tested(
-        by_merchant.judged,
-        12,
-        customer_key,
-        id,
-        command,
-        51,
-        1503,
-    );
+    let by_customer = signature_tested(by_merchant.judged, 12, customer_key, id, command, 51, 1503);
     let lock = digest_at(command, 3);
     let deadline = deadline_from(at.clock, ch.delay);
     let leaves = closing_leaves(ch, by_merchant.leaf);

@@ -7,6 +7,22 @@ use arbiter::Setup;
 use wire::u64_at;
 use wire::wide;
 
+// A leaf that a channel remembers; 9 is the first and 10 the second. What does not fit is left out.
+fn with_leaf(channel: Channel, field: u8, value: u64) -> Channel {
+    let mut after = channel;
+    if value < 4294967296 {
+        let mut leaves = after.leaves;
+        if field == 9 {
+            leaves.first = value as u32;
+        }
+        if field == 10 {
+            leaves.second = value as u32;
+        }
+        after.leaves = leaves;
+    }
+    after
+}
+
 // A value in a field of a channel; 2 to 7 name the fields. What does not fit its field is left out.
 fn changed(channel: Channel, field: u8, value: u64) -> Channel {
     let mut after = channel;
@@ -66,7 +82,8 @@ pub fn overwritten(book: Book, bytes: &[u8]) -> Book {
     }
     if n < 64 {
         let ch = after.channels[n];
-        after.channels[n] = changed(ch, field, value);
+        let ch = changed(ch, field, value);
+        after.channels[n] = with_leaf(ch, field, value);
     }
     after
 }

@@ -42,11 +42,7 @@ pub struct Checked {
 fn leaf_if(good: bool, leaf: u32) -> u32
     ensures { λ r. ⌜ r ≡ cond good leaf 0 ⌝ }
 {
-    if good {
-        leaf
-    } else {
-        0
-    }
+    if good { leaf } else { 0 }
 }
 
 // The check of a well-formed signature of a message that is short enough.

@@ -60,7 +60,7 @@ fn print_stages(key: &[u8], message: &[u8], signature: &[u8]) {
     print_digest(top);
 }
 
-// The refusal, the verdict and the steps of a check.
+// The refusal, the verdict, the steps and the leaf of a check.
 fn print_check(key: &[u8], message: &[u8], signature: &[u8]) {
     let checked = lms::check(key, message, signature);
     io::print_decimal(STDOUT_FILENO, checked.refusal as u64);
@@ -70,6 +70,8 @@ fn print_check(key: &[u8], message: &[u8], signature: &[u8]) {
         io::write_all(STDOUT_FILENO, b" no ");
     }
     io::print_decimal(STDOUT_FILENO, checked.steps as u64);
+    io::write_all(STDOUT_FILENO, b" leaf ");
+    io::print_decimal(STDOUT_FILENO, checked.leaf as u64);
     io::write_all(STDOUT_FILENO, b"\n");
 }
 

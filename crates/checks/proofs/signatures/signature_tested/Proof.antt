@@ -32,8 +32,7 @@ returns-2 c =
     let c₃ = c .before .before .before in
     let c₇ = c₃ .before .before .before .before in
     let e = rw (c₇ .signed-message .ensures, add-sub-cancel-left) at (c₃ .check .ensures) in
-    let go = c₇ .before .if1 .left in
-    (
+    let go = c₇ .before .if1 .left in (
       c .tested .ensures .0 ∙ ask-signed _ _ _ _ e _ _ go,
       (omega (arith, c .tested .ensures .1, steps-most _ _ _ _ e), ap (λ (r : Checked). r .leaf) e ∙ rw (eq-eqb _ _ go)),
     )
