@@ -13,6 +13,10 @@ use Rattle.lms.specs.Check.{hashOf, topOf, verifiedOf, checkedBy, checkO
 use Rattle.lms.specs.Leaves.{HandsBack, LeafLaw}
 use Rattle.lms.proofs.Forms.{formed}
 
+-- A no hands back 0.
+no : (signature : List ℕ) (refusal steps : ℕ) → HandsBack signature (record { refusal = refusal; verdict = false; steps = steps; leaf = 0 })
+no signature refusal steps = record { good = λ e. absurd (false≢true e); bad = λ _. refl; inside = omega arith }
+
 module _ (key message signature : List ℕ) where
   verified : leaf signature < 1024 → HandsBack signature (verifiedOf key message signature)
   unfolding verifiedOf
@@ -20,11 +24,11 @@ module _ (key message signature : List ℕ) where
     where
       go : (x : Bool) → HandsBack signature (record { refusal = 0; verdict = x; steps = stepCount (hashOf key message signature); leaf = cond x (leaf signature) 0 })
       go true = record { good = λ _. refl; bad = λ e. absurd (true≢false e); inside = inside }
-      go false = record { good = λ e. absurd (false≢true e); bad = λ _. refl; inside = omega arith }
+      go false = no signature 0 _
 
   by : (short form : Bool) → wellFormed key signature ≡ form → HandsBack signature (checkedBy short form (verifiedOf key message signature))
-  by false form e = record { good = λ e. absurd (false≢true e); bad = λ _. refl; inside = omega arith }
-  by true false e = record { good = λ e. absurd (false≢true e); bad = λ _. refl; inside = omega arith }
+  by false form e = no signature 2 0
+  by true false e = no signature 0 0
   by true true e = verified ((formed key signature e) .1 .inside)
 
 pub leafLaw : LeafLaw

@@ -155,8 +155,8 @@ pub record Timely (o : Opening) (l : List Event) (now : ℕ) : Type 0 where
   pub unsettled : has 10 l ≡ false
   pub early : now < (eventOf 7 l) .clock + agreedDelay o l
 
--- The leaf of a 09, given the merchant's leaf of each opcode's string, differs from that of the accepted 07 and, where there is one, of the
--- accepted 08.
+-- A 09 whose leaf differs from that of the accepted 07 and, where there is one, of the accepted 08: `leaf` tells, by the opcode, the leaf of the
+-- merchant's signature in a string.
 pub record Unspent (leaf : ℕ → List ℕ → ℕ) (l : List Event) (d : List ℕ) : Type 0 where
   pub of-07 : leaf 9 d ≡ leaf 7 ((eventOf 7 l) .string) → ⊥
   pub of-08 : has 8 l ≡ true → leaf 9 d ≡ leaf 8 ((eventOf 8 l) .string) → ⊥

@@ -57,7 +57,7 @@ pub record Deposits (at : Context) (customer merchant : Party) (d : ℕ) (ch : C
   pub some : 1 ≤ customer .deposit .0 + merchant .deposit .0 → customer .deposit .0 + merchant .deposit .0 ≤ limit → answered ch (establish at customer merchant d ch) ≡ refusal 0 0
 
 -- The merchant's leaf of an 08 is remembered alone, and so is that of a 07 that answers none; a 07 that answers an 08 keeps the 08's beside its
--- own. No other command remembers a leaf.
+-- own. The leaves of a 05, a 06 and a 09 are not remembered.
 pub record RemembersLeaves (at : Context) (v w : Verdict) (ch : Channel) : Type 0 where
   pub merchant-closes : ((merchantClose at v ch) .channel) .leaves ≡ leaves (v .leaf) (v .leaf)
   pub customer-closes : (lock : List ℕ) (c b : ℕ) → ch .status ≡ 3 → ((customerClose at lock c b v w ch) .channel) .leaves ≡ leaves (v .leaf) (v .leaf)
