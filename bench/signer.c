@@ -37,13 +37,14 @@ static int make(void) {
     return 1;
 }
 
-// Whether the signature passes the check, and the steps that the check left to its signer.
+// Whether the signature passes the check with the leaf that made it, and the steps that the check left to its signer.
 static int passes(const struct finaruvom_signature *signature, int *steps) {
     bool verdict = false;
-    uint32_t checked = 0;
-    uint32_t refusal = finaruvom_check(signer.key, sizeof signer.key, message, sizeof message, signature->bytes, sizeof signature->bytes, &verdict, &checked);
+    uint32_t checked = 0, leaf = 0;
+    uint32_t refusal =
+        finaruvom_check(signer.key, sizeof signer.key, message, sizeof message, signature->bytes, sizeof signature->bytes, &verdict, &checked, &leaf);
     *steps = ALL_STEPS - (int)checked;
-    return signature->refusal == 0 && refusal == 0 && verdict;
+    return signature->refusal == 0 && refusal == 0 && verdict && leaf + 1 == signer.next;
 }
 
 static int sign(int number) {

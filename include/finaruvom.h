@@ -34,9 +34,9 @@ extern "C" {
 
 // The version that this header belongs to, and the number of the book's layout, which the mark of every book carries.
 #define FINARUVOM_VERSION_MAJOR 0
-#define FINARUVOM_VERSION_MINOR 13
+#define FINARUVOM_VERSION_MINOR 14
 #define FINARUVOM_VERSION_PATCH 0
-#define FINARUVOM_LAYOUT 3
+#define FINARUVOM_LAYOUT 4
 
 // Sizes in bytes, the number of channels, and those of a signer's leaves and places for nodes.
 #define FINARUVOM_ID_SIZE 16
@@ -45,9 +45,10 @@ extern "C" {
 #define FINARUVOM_DIGEST_SIZE 32
 #define FINARUVOM_CHANNELS 64
 #define FINARUVOM_PARTY_SIZE 64
-#define FINARUVOM_CHANNEL_SIZE 184
+#define FINARUVOM_CHANNEL_LEAVES_SIZE 8
+#define FINARUVOM_CHANNEL_SIZE 192
 #define FINARUVOM_SETUP_SIZE 8
-#define FINARUVOM_BOOK_SIZE 11816
+#define FINARUVOM_BOOK_SIZE 12328
 #define FINARUVOM_SETTINGS_SIZE 4
 #define FINARUVOM_ANSWER_SIZE 24
 #define FINARUVOM_LINE_SIZE 24
@@ -98,6 +99,7 @@ enum finaruvom_refusal {
     FINARUVOM_SECRET = 10,         // it does not hash to the lock
     FINARUVOM_MERCHANT = 11,
     FINARUVOM_CUSTOMER = 12,
+    FINARUVOM_SPENT_LEAF = 16,     // a dispute with a leaf that the channel remembers
 };
 
 enum finaruvom_status {
@@ -124,6 +126,13 @@ struct finaruvom_party {
     uint64_t deposit;
 };
 
+// The merchant's leaves that a channel remembers, those of its 08 and its 07; both are the same where there is only one. They are read in statuses 4 and 5
+// alone, in 4 only the first, which is the 08's: anything may stand there in other statuses.
+struct finaruvom_leaves {
+    uint32_t first;
+    uint32_t second;
+};
+
 struct finaruvom_channel {
     struct finaruvom_party customer;
     struct finaruvom_party merchant;
@@ -132,6 +141,7 @@ struct finaruvom_channel {
     uint32_t delay;
     uint32_t status;
     uint8_t lock[FINARUVOM_DIGEST_SIZE];
+    struct finaruvom_leaves leaves;
 };
 
 // What a book keeps of its opening: the default delay, which a 0 in command 02 stands for.
@@ -219,6 +229,7 @@ struct finaruvom_signature {
 };
 
 FINARUVOM_ASSERT(sizeof(struct finaruvom_party) == FINARUVOM_PARTY_SIZE, "party");
+FINARUVOM_ASSERT(sizeof(struct finaruvom_leaves) == FINARUVOM_CHANNEL_LEAVES_SIZE, "leaves");
 FINARUVOM_ASSERT(sizeof(struct finaruvom_channel) == FINARUVOM_CHANNEL_SIZE, "channel");
 FINARUVOM_ASSERT(sizeof(struct finaruvom_setup) == FINARUVOM_SETUP_SIZE, "setup");
 FINARUVOM_ASSERT(sizeof(struct finaruvom_book) == FINARUVOM_BOOK_SIZE, "book");
@@ -237,18 +248,19 @@ FINARUVOM_ASSERT(sizeof(struct finaruvom_signature) == sizeof(uint32_t) + FINARU
 struct finaruvom_versions finaruvom_version(void);
 
 // The layout. Its name carries the number and every program refers to it, so that one does not link with a library of another layout.
-uint32_t finaruvom_layout_3(void);
-FINARUVOM_KEPT static uint32_t (*const finaruvom_linked_layout)(void) = finaruvom_layout_3;
+uint32_t finaruvom_layout_4(void);
+FINARUVOM_KEPT static uint32_t (*const finaruvom_linked_layout)(void) = finaruvom_layout_4;
 
 // The SHA-256 digest of at most 65,536 bytes, and 0; of more, zeros and 2.
 // Duties: bytes not null, shared; digest not null, 32 bytes, alone; stack FINARUVOM_STACK_HASH.
 FINARUVOM_CALL uint32_t finaruvom_hash(const uint8_t *bytes, size_t n, uint8_t digest[FINARUVOM_DIGEST_SIZE]);
 
-// The LMS signature check: verdict and chain steps, and 0; of a message of more than 1,024 bytes no, 0 and 2.
-// Duties: key, message, signature not null, shared; verdict and steps not null, alone, each aligned as its type, and *verdict holds false or true, a byte of
-// 0 or 1, already before the call: give it a value first; stack FINARUVOM_STACK_CHECK.
+// The LMS signature check: verdict, chain steps and the leaf that signed, and 0; of a message of more than 1,024 bytes no, 0, 0 and 2. Where the verdict is no
+// the leaf is 0, which is a leaf too: look at the verdict first.
+// Duties: key, message, signature not null, shared; verdict, steps and leaf not null, alone, each aligned as its type, and *verdict holds false or true, a
+// byte of 0 or 1, already before the call: give it a value first; stack FINARUVOM_STACK_CHECK.
 FINARUVOM_CALL uint32_t finaruvom_check(const uint8_t *key, size_t key_n, const uint8_t *message, size_t message_n, const uint8_t *signature,
-                                        size_t signature_n, bool *verdict, uint32_t *steps);
+                                        size_t signature_n, bool *verdict, uint32_t *steps, uint32_t *leaf);
 
 // The whole length of the command that begins with this byte; 0 where it begins none. No duties.
 size_t finaruvom_size(uint8_t first);

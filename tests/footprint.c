@@ -148,8 +148,9 @@ static void hash(void) {
 // A signature that is walked to its end.
 static void check(void) {
     bool good = true;
-    answer.refusal = finaruvom_check(book.channels[N].merchant.key, 56, command, 35, command + 19, 1452, &good, &answer.steps);
-    answer.refusal |= good || answer.steps == 0;
+    uint32_t leaf = 1;
+    answer.refusal = finaruvom_check(book.channels[N].merchant.key, 56, command, 35, command + 19, 1452, &good, &answer.steps, &leaf);
+    answer.refusal |= good || answer.steps == 0 || leaf != 0;
 }
 
 // A key making, and signings with what the making left; a length or a next leaf that is refused.

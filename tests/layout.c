@@ -7,10 +7,11 @@
 #define AT(type, field, place) _Static_assert(offsetof(struct finaruvom_##type, field) == (place), #type "." #field)
 #define SIZE(type, bytes) _Static_assert(sizeof(struct finaruvom_##type) == (bytes), #type)
 SIZE(party, 64); AT(party, key, 0); AT(party, deposit, 56);
-SIZE(channel, 184); AT(channel, customer, 0); AT(channel, merchant, 64); AT(channel, deadline, 128); AT(channel, kept, 136);
-AT(channel, delay, 144); AT(channel, status, 148); AT(channel, lock, 152);
+SIZE(leaves, 8); AT(leaves, first, 0); AT(leaves, second, 4);
+SIZE(channel, 192); AT(channel, customer, 0); AT(channel, merchant, 64); AT(channel, deadline, 128); AT(channel, kept, 136);
+AT(channel, delay, 144); AT(channel, status, 148); AT(channel, lock, 152); AT(channel, leaves, 184);
 SIZE(setup, 8); AT(setup, delay, 0);
-SIZE(book, 11816); AT(book, mark, 0); AT(book, id, 8); AT(book, setup, 24); AT(book, clock, 32); AT(book, channels, 40);
+SIZE(book, 12328); AT(book, mark, 0); AT(book, id, 8); AT(book, setup, 24); AT(book, clock, 32); AT(book, channels, 40);
 SIZE(settings, 4); AT(settings, delay, 0);
 SIZE(answer, 24); AT(answer, customer, 0); AT(answer, merchant, 8); AT(answer, steps, 16); AT(answer, refusal, 20);
 SIZE(line, 24); AT(line, answer, 0);
@@ -27,8 +28,9 @@ SIZE(signature, 1456); AT(signature, refusal, 0); AT(signature, bytes, 4);
 #define OF(type, field) sizeof(((struct finaruvom_##type *)0)->field)
 #define FILLED(type, fields) _Static_assert(sizeof(struct finaruvom_##type) == (fields), #type " has padding")
 FILLED(party, OF(party, key) + OF(party, deposit));
+FILLED(leaves, OF(leaves, first) + OF(leaves, second));
 FILLED(channel, OF(channel, customer) + OF(channel, merchant) + OF(channel, deadline) + OF(channel, kept) + OF(channel, delay) +
-                    OF(channel, status) + OF(channel, lock));
+                    OF(channel, status) + OF(channel, lock) + OF(channel, leaves));
 FILLED(setup, OF(setup, delay));
 FILLED(book, OF(book, mark) + OF(book, id) + OF(book, setup) + OF(book, clock) + OF(book, channels));
 FILLED(settings, OF(settings, delay));
@@ -122,7 +124,7 @@ static void opened_with(uint32_t delay) {
     number("clock", &book, 32, 0, 8);
     establish(s, 0);
     answers("an 02 with a delay of 0", finaruvom_apply(&book, s, sizeof s).refusal, 0);
-    number("the default read", &book, 40 + 3 * 184 + 144, delay, 4);
+    number("the default read", &book, 40 + 3 * 192 + 144, delay, 4);
 }
 
 // A refused opening leaves every byte of the lent book.
@@ -157,7 +159,7 @@ static void established(void) {
     establish(s, 3601);
     struct finaruvom_answer answer = finaruvom_apply(&book, s, sizeof s);
     number("refusal", &answer, 20, 0, 4);
-    const size_t at = 40 + 3 * 184;
+    const size_t at = 40 + 3 * 192;
     same("the customer's key", &book, at, s + 3, 56);
     number("the customer's deposit", &book, at + 56, 900, 8);
     same("the merchant's key", &book, at + 64, s + 59, 56);

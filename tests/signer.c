@@ -1,5 +1,5 @@
 // Key making and signing through the exported calls: signer FILE. Signers with any bytes first, then the makings and signings of FILE, which come from outside;
-// what was signed passes the check, and no longer with one bit turned over.
+// what was signed passes the check, which hands back its leaf, and no longer with one bit turned over: then the leaf is 0.
 #include "../include/finaruvom.h"
 #include <stdio.h>
 #include <stdlib.h>
@@ -87,17 +87,29 @@ static size_t bytes_of(const char *hex, uint8_t *bytes, size_t most) {
     return n;
 }
 
-// Whether a signature of the message passes the check under the signer's key.
+// Whether a signature of the message passes the check under the signer's key; the leaf is that of the last signing, or 0 where it does not pass.
 static bool passes(const uint8_t *message, size_t message_n, const uint8_t *signature) {
     bool good = false;
-    uint32_t steps;
-    return finaruvom_check(signer.key, sizeof signer.key, message, message_n, signature, FINARUVOM_SIGNATURE_SIZE, &good, &steps) == 0 && good;
+    uint32_t steps, leaf = UINT32_MAX;
+    must(finaruvom_check(signer.key, sizeof signer.key, message, message_n, signature, FINARUVOM_SIGNATURE_SIZE, &good, &steps, &leaf) == 0,
+         "a check was refused");
+    must(leaf == (good ? signer.next - 1 : 0), "a check hands back another leaf");
+    return good;
+}
+
+// A message that is too long to be checked: no, 0 steps and leaf 0.
+static void not_checked(const uint8_t *signature) {
+    bool good = true;
+    uint32_t steps = 1, leaf = 1;
+    uint32_t refusal = finaruvom_check(signer.key, sizeof signer.key, string, sizeof string, signature, FINARUVOM_SIGNATURE_SIZE, &good, &steps, &leaf);
+    must(refusal == FINARUVOM_LENGTH && !good && steps == 0 && leaf == 0, "a message of 1,025 bytes was checked");
 }
 
 // A good signature, and none with a bit turned over in one of its parts: leaf, one-time type, C, strings, type and path.
 static void held_to_the_check(const uint8_t *message, size_t message_n, uint8_t *signature) {
     static const size_t places[] = {3, 7, 8, 39, 40, 600, 1127, 1131, 1132, 1300, 1451};
     must(passes(message, message_n, signature), "a signature does not pass the check");
+    not_checked(signature);
     for (size_t i = 0; i < sizeof places / sizeof places[0]; i++) {
         signature[places[i]] ^= 1;
         must(!passes(message, message_n, signature), "a signature with a bit turned over passes the check");

@@ -16,7 +16,7 @@ static void must(bool holds, const char *what) {
 }
 
 // Bytes of a book by its layout.
-static const size_t sizes[] = {0, 12320, 11808, 11816};
+static const size_t sizes[] = {0, 12320, 11808, 11816, 12328};
 _Static_assert(sizeof sizes / sizeof sizes[0] == FINARUVOM_LAYOUT + 1, "a size for each layout");
 
 // The first bytes of the book of a layout, as a desk would read them that did not look at the file's length; zeros behind a shorter one.
@@ -41,6 +41,8 @@ static void as_written(void) {
     must(stored.channels[2].delay == 10800 && stored.channels[2].customer.deposit == 50000 && stored.channels[2].merchant.deposit == 5000 &&
              stored.channels[2].customer.key[55] == 0x32 && stored.channels[2].merchant.key[55] == 0x77,
          "channel 2 has other terms");
+    must(stored.channels[1].leaves.first == 1 && stored.channels[1].leaves.second == 1, "channel 1 remembers another leaf than that of its 07");
+    must(stored.channels[2].leaves.first == 3 && stored.channels[2].leaves.second == 4, "channel 2 remembers other leaves than those of its 08 and 07");
 }
 
 // Every call says that the book is not sound, and leaves every byte of it and of the lines.

@@ -14,15 +14,29 @@ struct finaruvom_versions finaruvom_version(void) {
 }
 #endif
 
-#ifdef CHECK // ROOM_FOR_ENDS
+// The number that four bytes stand for.
+static inline uint32_t number(const uint8_t *s) {
+    return (uint32_t)s[0] << 24 | (uint32_t)s[1] << 16 | (uint32_t)s[2] << 8 | s[3];
+}
+
+#ifdef CHECK
 uint32_t right(const uint8_t *key, size_t key_n, const uint8_t *message, size_t message_n, const uint8_t *signature, size_t signature_n, bool *verdict,
-               uint32_t *steps);
+               uint32_t *steps, uint32_t *leaf);
 
 uint32_t finaruvom_check(const uint8_t *key, size_t key_n, const uint8_t *message, size_t message_n, const uint8_t *signature, size_t signature_n,
-                         bool *verdict, uint32_t *steps) {
+                         bool *verdict, uint32_t *steps, uint32_t *leaf) {
+#ifdef ROOM_FOR_ENDS
     uint8_t ends[34][32];
     memset(ends, 0, sizeof ends);
-    return right(key, key_n, message, message_n, signature, signature_n, verdict, steps);
+#endif
+    uint32_t refusal = right(key, key_n, message, message_n, signature, signature_n, verdict, steps, leaf);
+#ifdef LEAF_ANYWAY
+    *leaf = signature_n == FINARUVOM_SIGNATURE_SIZE ? number(signature) : 0;
+#endif
+#ifdef NO_LEAF
+    *leaf = 0;
+#endif
+    return refusal;
 }
 #endif
 
@@ -104,11 +118,11 @@ uint32_t finaruvom_open(struct finaruvom_book *book, const uint8_t *id, size_t i
     memset(book, 0, sizeof *book);
 #endif
 #ifdef LEAVES_A_BYTE
-    uint8_t old = book->channels[63].lock[31];
+    uint32_t old = book->channels[63].leaves.second;
 #endif
     uint32_t refusal = right(book, id, id_n);
 #ifdef LEAVES_A_BYTE
-    book->channels[63].lock[31] = old;
+    book->channels[63].leaves.second = old;
 #endif
 #ifdef ANOTHER_MARK
     book->mark += refusal == 0;
@@ -156,6 +170,52 @@ uint32_t finaruvom_open_with(struct finaruvom_book *book, const uint8_t *id, siz
 #ifdef APPLY
 struct finaruvom_answer right(struct finaruvom_book *book, const uint8_t *command, size_t command_n);
 
+// A 07 or 09 to a channel: whether it is one, its channel and the leaf of its merchant's signature.
+struct filed {
+    bool closes, disputes;
+    struct finaruvom_channel *channel;
+    uint32_t leaf;
+};
+
+static inline struct filed filed(struct finaruvom_book *book, const uint8_t *command, size_t command_n) {
+    bool closes = command_n == 2955 && command[0] == 7, disputes = command_n == 1487 && command[0] == 9;
+    if ((!closes && !disputes) || command[1] != 0 || command[2] >= FINARUVOM_CHANNELS)
+        return (struct filed){0};
+    return (struct filed){closes, disputes, &book->channels[command[2]], number(command + (closes ? 51 : 35))};
+}
+
+// An apply that is wrong in what a channel remembers, or in what it refuses for that.
+static inline struct finaruvom_answer another_memory(struct finaruvom_book *book, const uint8_t *command, size_t command_n) {
+    struct filed now = filed(book, command, command_n);
+    (void)now;
+#ifdef REFUSES_AN_ANSWER
+    if (now.closes && now.channel->status == FINARUVOM_MERCHANT_CLOSING && now.channel->leaves.first == now.leaf)
+        return (struct finaruvom_answer){.refusal = FINARUVOM_SPENT_LEAF};
+#endif
+    struct finaruvom_answer answer = right(book, command, command_n);
+#ifdef SPENT_FIRST
+    if (now.disputes && answer.refusal == FINARUVOM_MERCHANT && (now.channel->leaves.first == now.leaf || now.channel->leaves.second == now.leaf))
+        answer.refusal = FINARUVOM_SPENT_LEAF;
+#endif
+#ifdef ZERO_IS_NONE
+    if (answer.refusal == FINARUVOM_SPENT_LEAF && now.leaf == 0) {
+        struct finaruvom_leaves leaves = now.channel->leaves;
+        now.channel->leaves = (struct finaruvom_leaves){UINT32_MAX, UINT32_MAX};
+        answer = right(book, command, command_n);
+        now.channel->leaves = leaves;
+    }
+#endif
+#ifdef FORGETS_THE_08
+    if (now.closes && answer.refusal == FINARUVOM_ACCEPTED)
+        now.channel->leaves.first = now.leaf;
+#endif
+#ifdef REMEMBERS_ANYWAY
+    if (now.closes && answer.refusal == FINARUVOM_CUSTOMER)
+        now.channel->leaves.second = now.leaf;
+#endif
+    return answer;
+}
+
 struct finaruvom_answer finaruvom_apply(struct finaruvom_book *book, const uint8_t *command, size_t command_n) {
 #ifdef COPIES
     static struct finaruvom_book copy;
@@ -173,7 +233,7 @@ struct finaruvom_answer finaruvom_apply(struct finaruvom_book *book, const uint8
     uint64_t delay = book->setup.delay;
     book->setup.delay = ANOTHER_DEFAULT(delay);
 #endif
-    struct finaruvom_answer answer = right(book, command, command_n);
+    struct finaruvom_answer answer = another_memory(book, command, command_n);
 #ifdef ANY_LAYOUT
     book->mark = mark;
 #endif

@@ -118,7 +118,8 @@ static void call_check(void) {
     static const size_t messages[] = {0, 1, 19, 67, 1023, 1024, 1025};
     static const size_t signatures[] = {0, 4, 1451, 1452, 1452, 1452, 1453};
     struct buffer key = lend(keys[below(7)]), message = lend(messages[below(7)]);
-    struct buffer signature = lend(signatures[below(7)]), verdict = lend(sizeof(bool)), steps = lend(sizeof(uint32_t));
+    struct buffer signature = lend(signatures[below(7)]), verdict = lend(sizeof(bool));
+    struct buffer steps = lend(sizeof(uint32_t)), leaf = lend(sizeof(uint32_t));
     verdict.bytes[0] &= 1;
     if (key.n >= 8 && signature.n >= 1132) {
         memcpy(key.bytes, "\0\0\0\6\0\0\0\4", 8);
@@ -129,14 +130,17 @@ static void call_check(void) {
     seal(&message);
     seal(&signature);
     uint32_t refusal = finaruvom_check(key.bytes, key.n, message.bytes, message.n, signature.bytes, signature.n,
-                                       (bool *)verdict.bytes, (uint32_t *)steps.bytes);
+                                       (bool *)verdict.bytes, (uint32_t *)steps.bytes, (uint32_t *)leaf.bytes);
     require(refusal == (message.n > 1024 ? FINARUVOM_LENGTH : FINARUVOM_ACCEPTED), "check: refusal");
     require(verdict.bytes[0] <= 1, "check: verdict");
+    uint32_t signed_by = *(uint32_t *)leaf.bytes;
+    require(verdict.bytes[0] == 1 ? signed_by < FINARUVOM_LEAVES : signed_by == 0, "check: leaf");
     give_back(key);
     give_back(message);
     give_back(signature);
     give_back(verdict);
     give_back(steps);
+    give_back(leaf);
 }
 
 static void call_open(struct finaruvom_book *book) {
@@ -171,7 +175,7 @@ static void call_apply(struct finaruvom_book *book) {
     struct buffer string = command();
     seal(&string);
     struct finaruvom_answer answer = finaruvom_apply(book, string.bytes, string.n);
-    require(answer.refusal <= FINARUVOM_CUSTOMER || answer.refusal == FINARUVOM_UNSOUND, "apply: refusal");
+    require(answer.refusal <= FINARUVOM_CUSTOMER || answer.refusal == FINARUVOM_SPENT_LEAF || answer.refusal == FINARUVOM_UNSOUND, "apply: refusal");
     require(answer.refusal == FINARUVOM_ACCEPTED || (answer.customer == 0 && answer.merchant == 0), "apply: paid");
     give_back(string);
 }

@@ -1,9 +1,9 @@
 //! Commands on a book with all channels in use.
 use crate::timing::{best, row};
 use differential::bridge::to_oracle;
-use differential::plan::Plan;
+use differential::plan::{Hand, Plan};
 use differential::wallet::Wallet;
-use finaruvom::raw::{Channel, Party};
+use finaruvom::raw::{Channel, Leaves, Party};
 use finaruvom::{Book, Cents, Seconds};
 use oracle::digest;
 
@@ -65,6 +65,10 @@ pub fn book(wallet: &Wallet, status: u32, deadline: u64) -> Book {
         deadline: Seconds(CLOCK + 3_600),
         kept: Cents(700),
         lock: digest(&wallet.secrets()[0]),
+        leaves: Leaves {
+            first: 7,
+            second: 9,
+        },
     };
     let opened = Book::open(&ID).expect("16 bytes are an id");
     let mut raw = opened.as_raw().clone();
@@ -84,6 +88,11 @@ fn command(wallet: &mut Wallet, opcode: u8) -> Vec<u8> {
         _ => [900, 100],
     };
     let secret = wallet.secrets()[0];
+    // A leaf that no channel remembers.
+    let merchant = Hand {
+        party: 1,
+        leaf: Some(8),
+    };
     let plan = Plan {
         opcode,
         n: N,
@@ -91,8 +100,8 @@ fn command(wallet: &mut Wallet, opcode: u8) -> Vec<u8> {
         keys: [0, 1].map(|party| wallet.key(party)),
         delay: 3_600,
         string: secret,
-        signers: [1, 0],
+        signers: [merchant, 0.into()],
         signed: (opcode, ID, N),
     };
-    plan.write(|party, message| wallet.sign(party, message))
+    plan.write(|hand, message| wallet.sign(hand, message))
 }

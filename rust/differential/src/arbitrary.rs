@@ -2,8 +2,8 @@
 use crate::bridge::mark;
 use crate::pair::Opening;
 use crate::rng::Rng;
-use crate::wallet::Wallet;
-use finaruvom::raw::{Book, Channel, Party, Setup};
+use crate::wallet::{Wallet, LEAVES};
+use finaruvom::raw::{Book, Channel, Leaves, Party, Setup};
 use finaruvom::{Cents, Seconds, Settings};
 use oracle::{digest, DESK_DEFAULT, LARGEST, LONGEST_DELAY, PLAIN_DEFAULT, SHORTEST_DELAY};
 
@@ -41,6 +41,18 @@ const ODD_STATUSES: [u32; 12] = [
     0x0300_0000,
     0x8000_0005,
     u32::MAX - 250,
+    u32::MAX,
+];
+
+/// Leaves that no key has. Some would be one if a part of their bits were dropped, or their bytes
+/// turned round.
+const ODD_LEAVES: [u32; 7] = [
+    1_024,
+    1_031,
+    1 << 16,
+    (1 << 16) + 511,
+    0x0700_0000,
+    0x8000_0000,
     u32::MAX,
 ];
 
@@ -152,6 +164,18 @@ fn wild_channel(rng: &mut Rng, wallet: &Wallet, clock: u64) -> Channel {
         deadline: Seconds(deadline(rng, clock)),
         kept: Cents(rng.edge()),
         lock: lock(rng, wallet),
+        leaves: Leaves {
+            first: leaf(rng),
+            second: leaf(rng),
+        },
+    }
+}
+
+/// A leaf that the keys can sign with, or one that no key has.
+fn leaf(rng: &mut Rng) -> u32 {
+    match rng.below(4) {
+        0 => rng.pick(&ODD_LEAVES),
+        _ => rng.pick(&LEAVES),
     }
 }
 

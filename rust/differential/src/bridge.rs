@@ -1,6 +1,7 @@
 //! The library's values as the oracle's and back, field by field.
-use finaruvom::raw::{self, Party};
+use finaruvom::raw::{self, Leaves, Party};
 use finaruvom::{Book, Cents, Payments, Refusal, Seconds, Status, SIGNATURE_SIZE};
+use oracle::Remembered;
 use std::sync::OnceLock;
 
 /// The oracle's status of a channel whose own status the oracle cannot hold. It is none of the
@@ -40,12 +41,48 @@ pub fn to_oracle(raw: &raw::Book) -> oracle::Book {
             deadline: channel.deadline.0,
             kept: channel.kept.0,
             lock: channel.lock,
+            remembered: to_remembered(&channel),
         }),
     }
 }
 
+/// What the oracle remembers for a channel: nothing where nobody is closing, the leaf of the 08 in
+/// status 4.
+fn to_remembered(channel: &raw::Channel) -> Remembered {
+    let Leaves { first, second } = channel.leaves;
+    Remembered {
+        in_08: matches!(channel.status, 4 | 5).then_some(first),
+        in_07: (channel.status == 5).then_some(second),
+    }
+}
+
+/// The library's leaves for what the oracle remembers of a channel that was this one before. A leaf
+/// that is the only one was written to both places; what is not remembered stays.
+fn to_leaves(remembered: Remembered, before: &raw::Channel) -> Leaves {
+    let [first, second] = match (remembered.in_08, remembered.in_07) {
+        (None, None) => return before.leaves,
+        (None, Some(leaf)) => [leaf, leaf],
+        (Some(leaf), None) if before.status < 4 => [leaf, leaf],
+        (Some(leaf), None) => [leaf, before.leaves.second],
+        (Some(first), Some(second)) => [first, second],
+    };
+    Leaves { first, second }
+}
+
+/// The same book with the leaves that an opening writes, whatever stood there: zeros.
+pub fn forgetting(book: &raw::Book) -> raw::Book {
+    let mut book = book.clone();
+    for channel in &mut book.channels {
+        channel.leaves = Leaves {
+            first: 0,
+            second: 0,
+        };
+    }
+    book
+}
+
 /// The library's book with the same values. A mark, a default or a status that the oracle cannot
-/// hold is the one before: only an opening changes it.
+/// hold is the one before: only an opening changes it. So are leaves that are not remembered.
 pub fn to_raw(book: &oracle::Book, before: &raw::Book) -> raw::Book {
     let party = |party: &oracle::Party| Party {
         key: party.key,
@@ -64,6 +101,7 @@ pub fn to_raw(book: &oracle::Book, before: &raw::Book) -> raw::Book {
             deadline: Seconds(channel.deadline),
             kept: Cents(channel.kept),
             lock: channel.lock,
+            leaves: to_leaves(channel.remembered, &before.channels[n]),
         }
     };
     let delay = match book.default_delay {

@@ -1,5 +1,6 @@
 //! Commands, openings and books that come up by design alone.
 
+pub mod leaves;
 pub mod signers;
 
 use crate::wallet::bits_apart;

@@ -1,10 +1,10 @@
 //! Commands for a book whose state is known.
 use crate::arbitrary;
-use crate::plan::Plan;
+use crate::plan::{Hand, Plan};
 use crate::rng::Rng;
 use crate::spoil;
-use crate::wallet::Wallet;
-use oracle::{Book, Channel, SIGNATURE};
+use crate::wallet::{Wallet, LEAVES};
+use oracle::{Book, Channel, Remembered, SIGNATURE};
 
 /// Deposits that are agreed often, so that signatures come back; some are the merchant's alone.
 const DEPOSITS: [[u64; 2]; 12] = [
@@ -70,8 +70,14 @@ impl<'a> Maker<'a> {
     }
 
     /// A dispute of this channel, signed by nobody.
-    pub fn dispute(&mut self, book: &Book, n: u16) -> Vec<u8> {
+    pub fn unsigned_dispute(&mut self, book: &Book, n: u16) -> Vec<u8> {
         self.plan(book, n, 9).write(|_, _| [0; SIGNATURE])
+    }
+
+    /// A dispute of this channel, right but for its leaf, which the channel may remember.
+    pub fn dispute(&mut self, book: &Book, n: u16) -> Vec<u8> {
+        let plan = self.plan(book, n, 9);
+        self.write(book, &plan)
     }
 
     /// A command without signatures that fits where there is one.
@@ -91,9 +97,9 @@ impl<'a> Maker<'a> {
         let blank = plan.write(|_, _| [0; SIGNATURE]);
         let refusal = oracle::apply(&mut book.clone(), &blank).refusal;
         if matches!(refusal, 11 | 12) || self.rng.one_in(8) {
-            plan.write(|party, message| self.wallet.sign(party, message))
+            plan.write(|hand, message| self.wallet.sign(hand, message))
         } else {
-            plan.write(|party, _| self.wallet.sign(party, b"something else"))
+            plan.write(|hand, _| self.wallet.sign(hand, b"something else"))
         }
     }
 
@@ -134,7 +140,12 @@ impl<'a> Maker<'a> {
     /// The right operands for a command of this kind.
     fn plan(&mut self, book: &Book, n: u16, opcode: u8) -> Plan {
         let channel = &book.channels[usize::from(n)];
-        let signers = [channel.merchant.key, channel.customer.key];
+        let [merchant, customer] = [channel.merchant.key, channel.customer.key]
+            .map(|key| self.wallet.party(&key).unwrap_or(0));
+        let merchant = Hand {
+            party: merchant,
+            leaf: self.leaf(channel, opcode),
+        };
         let keys = self.keys();
         Plan {
             opcode,
@@ -143,9 +154,19 @@ impl<'a> Maker<'a> {
             keys,
             delay: self.rng.pick(&DELAYS),
             string: self.string(channel, opcode),
-            signers: signers.map(|key| self.wallet.party(&key).unwrap_or(0)),
+            signers: [merchant, customer.into()],
             signed: (opcode, book.id, n),
         }
+    }
+
+    /// The merchant's leaf: in a 07 or 09 at times one that the channel remembers.
+    fn leaf(&mut self, channel: &Channel, opcode: u8) -> Option<u32> {
+        let Remembered { in_08, in_07 } = channel.remembered;
+        let leaf = match opcode {
+            7 | 9 => self.rng.pick(&[in_08, in_07, None, None, None, None]),
+            _ => None,
+        };
+        leaf.filter(|leaf| LEAVES.contains(leaf))
     }
 
     fn numbers(&mut self, book: &Book, channel: &Channel, opcode: u8) -> [u64; 2] {

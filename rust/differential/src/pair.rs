@@ -2,8 +2,8 @@
 
 mod journal;
 
-use crate::bridge::{to_answer, to_oracle, to_paid, to_raw};
-use crate::kinds::{kind, ACCEPTED, DEFAULT_REFUSED, ID_REFUSED};
+use crate::bridge::{forgetting, to_answer, to_oracle, to_paid, to_raw};
+use crate::kinds::{kind, leaves, ACCEPTED, DEFAULT_REFUSED, ID_REFUSED};
 use crate::tally::Tally;
 use finaruvom::{raw, Answer, Book, Refusal, Settings};
 
@@ -37,7 +37,7 @@ impl Pair {
         let library = Book::open(&id).map_err(|refusal| refusal.to_string())?;
         let oracle = oracle::Book::fresh(id);
         let pair = Pair { library, oracle };
-        pair.agree(pair.library.as_raw())?;
+        pair.agree(&forgetting(pair.library.as_raw()))?;
         Ok(pair)
     }
 
@@ -58,7 +58,10 @@ impl Pair {
             _ => DEFAULT_REFUSED,
         });
         same("opening", &library, &oracle)?;
-        self.agree(&before)?;
+        match oracle {
+            0 => self.agree(&forgetting(&before))?,
+            _ => self.agree(&before)?,
+        }
         Ok(oracle)
     }
 
@@ -75,6 +78,7 @@ impl Pair {
         if let Some(kind) = kind(&self.oracle, command, oracle.refusal) {
             tally.compared(kind);
         }
+        leaves::kinds(&self.oracle, command, oracle.refusal).for_each(|kind| tally.compared(kind));
         if let (0, Some(before), Some(after)) =
             (oracle.refusal, before, status(&self.oracle, command))
         {

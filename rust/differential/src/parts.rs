@@ -5,6 +5,7 @@ mod boundary;
 mod faults;
 mod hashes;
 mod journals;
+mod leaves;
 mod runs;
 mod signatures;
 mod signers;
@@ -40,6 +41,7 @@ pub struct Part {
 pub const PARTS: &[Part] = &[
     part("journals", journals::case),
     part("accounts", accounts::case),
+    part("leaves", leaves::case),
     part("strings", strings::case),
     part("books", books::case),
     part("faults", faults::case),

@@ -1,6 +1,21 @@
 //! A command before it is signed and written down.
 use oracle::SIGNATURE;
 
+/// Who signs, and with which leaf.
+#[derive(Clone, Copy, Debug, PartialEq, Eq, Hash)]
+pub struct Hand {
+    /// The party.
+    pub party: usize,
+    /// The leaf; where there is none, the message chooses it.
+    pub leaf: Option<u32>,
+}
+
+impl From<usize> for Hand {
+    fn from(party: usize) -> Hand {
+        Hand { party, leaf: None }
+    }
+}
+
 /// All operands that a command of any kind may need, and what its signers sign.
 #[derive(Clone, Debug)]
 pub struct Plan {
@@ -17,14 +32,14 @@ pub struct Plan {
     /// The lock of 07 or the secret of 09.
     pub string: [u8; 32],
     /// Who signs as merchant and as customer.
-    pub signers: [usize; 2],
+    pub signers: [Hand; 2],
     /// What is signed in place of opcode, book id and n.
     pub signed: (u8, [u8; 16], u16),
 }
 
 impl Plan {
     /// The command's bytes, with what `sign` gives for a signer and a message.
-    pub fn write(&self, mut sign: impl FnMut(usize, &[u8]) -> [u8; SIGNATURE]) -> Vec<u8> {
+    pub fn write(&self, mut sign: impl FnMut(Hand, &[u8]) -> [u8; SIGNATURE]) -> Vec<u8> {
         let operands = self.operands();
         let (opcode, id, n) = self.signed;
         let message = [&[opcode], &id[..], &n.to_be_bytes(), &operands].concat();
@@ -56,7 +71,7 @@ impl Plan {
     }
 
     /// Who signs, in the order of the signatures.
-    fn signing(&self) -> &[usize] {
+    fn signing(&self) -> &[Hand] {
         match self.opcode {
             5 => &self.signers[1..],
             6 | 7 => &self.signers,

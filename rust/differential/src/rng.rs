@@ -36,6 +36,12 @@ impl Rng {
         items[self.below(items.len())]
     }
 
+    /// Some of the items, each at most once.
+    pub fn distinct<T: Copy, const N: usize>(&mut self, items: &[T]) -> [T; N] {
+        let mut left = items.to_vec();
+        std::array::from_fn(|_| left.swap_remove(self.below(left.len())))
+    }
+
     /// An edge value, or one of its neighbours, or any number.
     pub fn edge(&mut self) -> u64 {
         let edge = self.pick(&EDGES);

@@ -84,8 +84,8 @@ fn signer(rng: &mut Rng, plan: &mut Plan) {
     let other = rng.below(Wallet::PARTIES);
     match rng.below(4) {
         0 => plan.signers.swap(0, 1),
-        1 => plan.signers[0] = other,
-        _ => plan.signers[1] = other,
+        1 => plan.signers[0].party = other,
+        _ => plan.signers[1].party = other,
     }
 }
 

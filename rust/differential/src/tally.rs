@@ -1,5 +1,5 @@
 //! What was compared, and which refusals came up.
-use crate::kinds::{signers, KINDS};
+use crate::kinds::{leaves, signers, KINDS};
 use std::collections::BTreeMap;
 use std::fmt;
 
@@ -14,7 +14,7 @@ const REACHABLE: [(u8, &[u8]); 11] = [
     (0x06, &[0, 2, 4, 5, 8, 11, 12, 99]),
     (0x07, &[0, 2, 4, 5, 8, 9, 11, 12, 99]),
     (0x08, &[0, 2, 4, 5, 11, 99]),
-    (0x09, &[0, 2, 4, 5, 9, 10, 11, 99]),
+    (0x09, &[0, 2, 4, 5, 9, 10, 11, 16, 99]),
     (0x0a, &[0, 2, 4, 5, 9, 99]),
 ];
 
@@ -55,7 +55,7 @@ const MEETINGS: [(u8, u8, u8); 15] = [
 ];
 
 /// Numbers of the answers.
-const REFUSALS: [u8; 14] = [0, 1, 2, 3, 4, 5, 6, 7, 8, 9, 10, 11, 12, 99];
+const REFUSALS: [u8; 15] = [0, 1, 2, 3, 4, 5, 6, 7, 8, 9, 10, 11, 12, 16, 99];
 
 /// Counts of a whole run.
 #[derive(Default)]
@@ -111,6 +111,7 @@ impl Tally {
         let kinds = KINDS
             .into_iter()
             .chain(signers::names())
+            .chain(leaves::names())
             .filter(|kind| !self.compared.contains_key(kind))
             .map(|kind| kind.to_string());
         let all = answers.chain(moves).chain(meetings).chain(kinds);

@@ -1,9 +1,10 @@
 //! Keys, secrets and signatures that the cases share.
+use crate::plan::Hand;
 use oracle::{digest, Digest, Signer, SIGNATURE};
 use std::collections::HashMap;
 
-/// The leaves that the keys can sign with.
-const LEAVES: [u32; 6] = [0, 1, 511, 512, 1_022, 1_023];
+/// The leaves that the keys can sign with. Some are equal but for their high bits.
+pub const LEAVES: [u32; 10] = [0, 1, 7, 8, 9, 256, 511, 512, 1_022, 1_023];
 /// Signatures to keep before the pool is emptied.
 const POOL: usize = 20_000;
 
@@ -11,7 +12,7 @@ const POOL: usize = 20_000;
 pub struct Wallet {
     signers: Vec<Signer>,
     secrets: Vec<Digest>,
-    pool: HashMap<(usize, Vec<u8>), [u8; SIGNATURE]>,
+    pool: HashMap<(Hand, Vec<u8>), [u8; SIGNATURE]>,
 }
 
 impl Wallet {
@@ -39,17 +40,19 @@ impl Wallet {
         *self.secrets.iter().min_by_key(bits).unwrap()
     }
 
-    /// A party's signature of a message, always the same one; the message chooses the leaf.
-    pub fn sign(&mut self, party: usize, message: &[u8]) -> [u8; SIGNATURE] {
+    /// A party's signature of a message, always the same one; where no leaf is named, the message
+    /// chooses it.
+    pub fn sign(&mut self, hand: impl Into<Hand>, message: &[u8]) -> [u8; SIGNATURE] {
         if self.pool.len() >= POOL {
             self.pool.clear();
         }
-        let signer = &self.signers[party];
-        let place = (party, message.to_vec());
+        let hand = hand.into();
+        let signer = &self.signers[hand.party];
+        let place = (hand, message.to_vec());
         *self.pool.entry(place).or_insert_with(|| {
             let c = digest(message);
-            let leaf = LEAVES[usize::from(c[0]) % LEAVES.len()];
-            signer.sign(leaf, &c, message)
+            let chosen = LEAVES[usize::from(c[0]) % LEAVES.len()];
+            signer.sign(hand.leaf.unwrap_or(chosen), &c, message)
         })
     }
 }

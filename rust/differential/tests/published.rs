@@ -94,12 +94,15 @@ fn signatures() {
     for line in lines {
         let words = line.split(' ').filter_map(|word| word.split_once('='));
         let part: HashMap<&str, &str> = words.collect();
-        let verdict = Verdict {
-            good: part["verdict"] == "yes",
-            steps: part["steps"].parse().unwrap(),
-        };
         let [key, message, signature] =
             ["key", "message", "signature"].map(|name| bytes(part[name]));
+        let leaf = || u32::from_be_bytes(*signature.first_chunk().unwrap());
+        let good = part["verdict"] == "yes";
+        let verdict = Verdict {
+            good,
+            steps: part["steps"].parse().unwrap(),
+            leaf: if good { leaf() } else { 0 },
+        };
         assert_eq!(
             finaruvom::check(&key, &message, &signature),
             Ok(verdict),

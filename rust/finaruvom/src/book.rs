@@ -178,6 +178,10 @@ const UNOPENED: raw::Book = {
         delay: 0,
         status: 0,
         lock: [0; DIGEST_SIZE],
+        leaves: raw::Leaves {
+            first: 0,
+            second: 0,
+        },
     };
     raw::Book {
         mark: 0,

@@ -19,6 +19,19 @@ pub struct Party {
     pub deposit: Cents,
 }
 
+/// The merchant's leaves that a channel remembers, both the same where there is only one.
+///
+/// They are read in statuses 4 and 5 alone, in 4 only the first: anything may stand there in other
+/// statuses.
+#[repr(C)]
+#[derive(Clone, Copy, Debug, PartialEq, Eq, Hash)]
+pub struct Leaves {
+    /// That of the 08, or of the 07 where there was no 08.
+    pub first: u32,
+    /// That of the 07; before it, that of the 08.
+    pub second: u32,
+}
+
 /// A channel as the book stores it.
 #[repr(C)]
 #[derive(Clone, Copy, Debug, PartialEq, Eq, Hash)]
@@ -37,6 +50,8 @@ pub struct Channel {
     pub status: u32,
     /// The SHA-256 of the secret that wins a dispute.
     pub lock: [u8; DIGEST_SIZE],
+    /// The leaves that no dispute may use again.
+    pub leaves: Leaves,
 }
 
 /// What a book keeps of its opening.

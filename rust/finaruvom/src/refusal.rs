@@ -28,6 +28,7 @@ numbered! {
         Customer = 12: "the customer's signature is not good",
         SettingsDelay = 14: "the default delay of the settings is not 3,600 to 2,592,000",
         NoLeaf = 15: "the signer's leaves are all used",
+        SpentLeaf = 16: "the channel remembers the dispute's leaf",
         Unsound = 99: "the book is of no opening or another layout, or a value is out of range",
     }
 }

@@ -11,6 +11,9 @@ pub struct Verdict {
     pub good: bool,
     /// Chain steps made.
     pub steps: u32,
+    /// The leaf that signed; 0 where the signature is not good. 0 is a leaf too, so look at `good`
+    /// first.
+    pub leaf: u32,
 }
 
 /// The SHA-256 digest of at most 65,536 bytes.
@@ -42,11 +45,13 @@ pub fn hash(bytes: &[u8]) -> Result<[u8; DIGEST_SIZE], Refusal> {
 /// use finaruvom::{check, Refusal};
 /// use oracle::Signer;
 ///
-/// // A key that signs with leaf 0 alone.
-/// let signer = Signer::with_leaves([1; 32], [2; 16], &[0]);
-/// let signature = signer.sign(0, &[3; 32], b"two loaves");
-/// assert!(check(&signer.key(), b"two loaves", &signature)?.good);
-/// assert!(!check(&signer.key(), b"ten loaves", &signature)?.good);
+/// // A key that signs with leaf 7 alone.
+/// let signer = Signer::with_leaves([1; 32], [2; 16], &[7]);
+/// let signature = signer.sign(7, &[3; 32], b"two loaves");
+/// let verdict = check(&signer.key(), b"two loaves", &signature)?;
+/// assert_eq!((verdict.good, verdict.leaf), (true, 7));
+/// let verdict = check(&signer.key(), b"ten loaves", &signature)?;
+/// assert_eq!((verdict.good, verdict.leaf), (false, 0));
 /// # Ok::<(), Refusal>(())
 /// ```
 ///
@@ -55,8 +60,8 @@ pub fn hash(bytes: &[u8]) -> Result<[u8; DIGEST_SIZE], Refusal> {
 /// [`Refusal::Length`] of a message of more than 1,024 bytes.
 pub fn check(key: &[u8], message: &[u8], signature: &[u8]) -> Result<Verdict, Refusal> {
     let mut good = false;
-    let mut steps = 0;
-    // SAFETY: the three slices are readable, and verdict and steps are writable.
+    let (mut steps, mut leaf) = (0, 0);
+    // SAFETY: the three slices are readable, and verdict, steps and leaf are writable.
     let number = unsafe {
         raw::finaruvom_check(
             key.as_ptr(),
@@ -67,8 +72,9 @@ pub fn check(key: &[u8], message: &[u8], signature: &[u8]) -> Result<Verdict, Re
             signature.len(),
             &raw mut good,
             &raw mut steps,
+            &raw mut leaf,
         )
     };
     Refusal::checked(number)?;
-    Ok(Verdict { good, steps })
+    Ok(Verdict { good, steps, leaf })
 }

@@ -1,11 +1,11 @@
 //! The header's sizes in bytes, and its other numbers.
 
 /// The number of the book's layout, which the mark of every book carries.
-pub const LAYOUT: u32 = 3;
+pub const LAYOUT: u32 = 4;
 /// Channels of a book.
 pub const CHANNELS: usize = 64;
 /// Bytes of a stored book.
-pub const BOOK_SIZE: usize = 11_816;
+pub const BOOK_SIZE: usize = 12_328;
 /// Bytes of a book's id.
 pub const ID_SIZE: usize = 16;
 /// Bytes of an LMS public key: type, one-time type, identifier of 16 and root of 32.

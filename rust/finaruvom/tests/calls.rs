@@ -31,6 +31,7 @@ fn checks() {
     let no = Verdict {
         good: false,
         steps: 0,
+        leaf: 0,
     };
     assert_eq!(check(&[], &[0; 1_024], &[]), Ok(no));
     assert_eq!(check(&[], &[0; 1_025], &[]), Err(Refusal::Length));
@@ -189,6 +190,7 @@ fn refusals_by_number() {
         (Refusal::Customer, 12),
         (Refusal::SettingsDelay, 14),
         (Refusal::NoLeaf, 15),
+        (Refusal::SpentLeaf, 16),
         (Refusal::Unsound, 99),
     ];
     for (refusal, number) in numbers {

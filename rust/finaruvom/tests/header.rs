@@ -59,6 +59,24 @@ fn packaged() -> [u32; 3] {
     parts.try_into().unwrap()
 }
 
+/// The sizes of the crate's structs, by the header's names.
+fn structs() -> [(&'static str, usize); 12] {
+    [
+        ("PARTY_SIZE", size_of::<raw::Party>()),
+        ("CHANNEL_LEAVES_SIZE", size_of::<raw::Leaves>()),
+        ("CHANNEL_SIZE", size_of::<raw::Channel>()),
+        ("SETUP_SIZE", size_of::<raw::Setup>()),
+        ("SETTINGS_SIZE", size_of::<raw::Settings>()),
+        ("ANSWER_SIZE", size_of::<raw::Answer>()),
+        ("LINE_SIZE", size_of::<raw::Line>()),
+        ("READING_SIZE", size_of::<raw::Reading>()),
+        ("FOUND_SIZE", size_of::<raw::Found>()),
+        ("RAN_SIZE", size_of::<raw::Ran>()),
+        ("VERSIONS_SIZE", size_of::<raw::Versions>()),
+        ("NODE_SIZE", size_of::<raw::Node>()),
+    ]
+}
+
 #[test]
 fn definitions() {
     let (stacks, mut defined): (Numbers, Numbers) = defined()
@@ -87,19 +105,8 @@ fn definitions() {
         ("PLAIN_DELAY", PLAIN_DELAY as usize),
         ("DESK_DELAY", DESK_DELAY as usize),
         ("BOOK_SIZE", BOOK_SIZE),
-        ("PARTY_SIZE", size_of::<raw::Party>()),
-        ("CHANNEL_SIZE", size_of::<raw::Channel>()),
-        ("SETUP_SIZE", size_of::<raw::Setup>()),
-        ("SETTINGS_SIZE", size_of::<raw::Settings>()),
-        ("ANSWER_SIZE", size_of::<raw::Answer>()),
-        ("LINE_SIZE", size_of::<raw::Line>()),
-        ("READING_SIZE", size_of::<raw::Reading>()),
-        ("FOUND_SIZE", size_of::<raw::Found>()),
-        ("RAN_SIZE", size_of::<raw::Ran>()),
-        ("VERSIONS_SIZE", size_of::<raw::Versions>()),
-        ("NODE_SIZE", size_of::<raw::Node>()),
     ];
-    for (name, value) in crates {
+    for (name, value) in crates.into_iter().chain(structs()) {
         assert_eq!(defined.remove(name), Some(value), "{name}");
     }
     assert_eq!(defined, Numbers::new(), "not in the crate");
@@ -109,7 +116,7 @@ fn definitions() {
 fn refusals() {
     let mut listed = listed("refusal");
     assert_eq!(listed.remove("Accepted"), Some(0));
-    assert_eq!(listed.len(), 15);
+    assert_eq!(listed.len(), 16);
     assert_eq!(variants(Refusal::number), listed);
     assert_eq!(Refusal::try_from(13), Err(UnknownNumber(13)));
     assert_eq!(UnknownNumber(13).to_string(), "unknown number 13");

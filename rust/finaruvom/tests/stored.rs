@@ -8,7 +8,7 @@ use finaruvom::{
 
 const ID: [u8; 16] = *b"the book's id 01";
 /// What every opening writes: the word and the layout.
-const MARK: u64 = u64::from_be_bytes(*b"arbiter\x03");
+const MARK: u64 = u64::from_be_bytes(*b"arbiter\x04");
 
 /// A book that holds these bytes, whatever they are.
 fn holding(bytes: &[u8; BOOK_SIZE]) -> Book {
@@ -115,6 +115,8 @@ fn copy_values(from: &raw::Book, to: &mut raw::Book) {
         to.delay = from.delay;
         to.status = from.status;
         to.lock = from.lock;
+        to.leaves.first = from.leaves.first;
+        to.leaves.second = from.leaves.second;
     }
 }
 
@@ -133,7 +135,7 @@ fn equal_values_are_equal_bytes() {
 fn wrong_lengths() {
     let stored = used().as_bytes().to_vec();
     let near = (BOOK_SIZE - 200..=BOOK_SIZE + 200).filter(|length| *length != BOOK_SIZE);
-    for length in near.chain([0, 1, 8, 12_320, 2 * BOOK_SIZE]) {
+    for length in near.chain([0, 1, 8, 11_808, 11_816, 2 * BOOK_SIZE]) {
         let mut bytes = stored.clone();
         bytes.resize(length, 0);
         assert_eq!(Book::from_bytes(&bytes), Err(Refusal::Unsound), "{length}");
@@ -144,9 +146,10 @@ fn wrong_lengths() {
 /// The books that versions wrote, one of each layout.
 #[test]
 fn written_by_versions() {
-    let former: [&[u8]; 2] = [
+    let former: [&[u8]; 3] = [
         include_bytes!("../../../tests/books/layout-1.bin"),
         include_bytes!("../../../tests/books/layout-2.bin"),
+        include_bytes!("../../../tests/books/layout-3.bin"),
     ];
     for stored in former {
         assert_eq!(Book::from_bytes(stored), Err(Refusal::Unsound));
@@ -155,7 +158,7 @@ fn written_by_versions() {
         assert_eq!(Book::from_bytes(&resized), Err(Refusal::Unsound));
     }
 
-    let book = Book::from_bytes(include_bytes!("../../../tests/books/layout-3.bin")).unwrap();
+    let book = Book::from_bytes(include_bytes!("../../../tests/books/layout-4.bin")).unwrap();
     assert_eq!(book.clock(), Seconds(1_793_671_200));
     assert_eq!(book.default_delay(), Seconds(86_400));
     assert_eq!(book.as_raw().channels[1].delay, 86_400);
@@ -167,6 +170,9 @@ fn written_by_versions() {
         (Cents(55_000), Cents(20_000))
     );
     assert_eq!(book.due(), Some(2));
+    let [disputed, answered] = [1, 2].map(|n| book.as_raw().channels[n].leaves);
+    assert_eq!((disputed.first, disputed.second), (1, 1));
+    assert_eq!((answered.first, answered.second), (3, 4));
 }
 
 /// Asserts that every call refuses a book with these values and keeps them.
@@ -201,7 +207,7 @@ fn closing() -> raw::Book {
 
 #[test]
 fn other_layouts() {
-    let others = (0..=u8::MAX).filter(|layout| *layout != 3);
+    let others = (0..=u8::MAX).filter(|layout| *layout != 4);
     // 0x21 is that of the books which were written before layouts had numbers.
     let marks = others.map(|layout| MARK & !0xff | u64::from(layout));
     for mark in marks.chain([0, u64::MAX, MARK.swap_bytes()]) {

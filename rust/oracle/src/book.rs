@@ -1,5 +1,5 @@
 //! The book, its channels and when it is sound; by document 02 No. 1 an opening gives the default
-//! delay.
+//! delay, by its No. 5 a channel remembers leaves.
 use std::ops::RangeInclusive;
 
 /// Channels of a book.
@@ -26,6 +26,15 @@ pub struct Party {
     pub deposit: u64,
 }
 
+/// The leaves of the merchant's signatures that a channel remembers, of document 02 No. 5.
+#[derive(Clone, Copy, Debug, PartialEq, Eq)]
+pub struct Remembered {
+    /// The one in the accepted 08, where there was one.
+    pub in_08: Option<u32>,
+    /// The one in the accepted 07.
+    pub in_07: Option<u32>,
+}
+
 /// A channel.
 #[derive(Clone, Copy, Debug, PartialEq, Eq)]
 pub struct Channel {
@@ -44,6 +53,8 @@ pub struct Channel {
     pub kept: u64,
     /// The closing's lock.
     pub lock: [u8; 32],
+    /// The merchant's leaves that no dispute may use again.
+    pub remembered: Remembered,
 }
 
 /// A book.
@@ -71,6 +82,7 @@ impl Channel {
         deadline: 0,
         kept: 0,
         lock: [0; 32],
+        remembered: Remembered::NONE,
     };
 
     /// The two deposits together, as a whole number.
@@ -87,6 +99,19 @@ impl Channel {
             5 => limits && u128::from(self.kept) <= self.deposits(),
             _ => false,
         }
+    }
+}
+
+impl Remembered {
+    /// No leaf.
+    pub const NONE: Remembered = Remembered {
+        in_08: None,
+        in_07: None,
+    };
+
+    /// Whether this leaf is one of them.
+    pub fn has(&self, leaf: u32) -> bool {
+        [self.in_08, self.in_07].contains(&Some(leaf))
     }
 }
 

@@ -21,6 +21,8 @@ pub struct Verdict {
     pub good: bool,
     /// Chain steps made.
     pub steps: u32,
+    /// The leaf that signed, of document 02 No. 5; 0 where the signature is not good.
+    pub leaf: u32,
 }
 
 /// Checks the signature of a message under a key.
@@ -29,6 +31,7 @@ pub fn check(key: &[u8], message: &[u8], signature: &[u8]) -> Verdict {
         refusal,
         good: false,
         steps: 0,
+        leaf: 0,
     };
     if message.len() > LONGEST_MESSAGE {
         return no(2);
@@ -87,10 +90,11 @@ fn verdict(key: &Key, message: &[u8], signature: &Signature) -> Verdict {
     let (leaf_key, steps) = place.walked(&q, signature.strings);
     let node = (1 << HEIGHT) + signature.leaf;
     let leaf = tree::leaf(key.identifier, node, &leaf_key);
-    let top = tree::climb(key.identifier, node, leaf, signature.path);
+    let good = tree::climb(key.identifier, node, leaf, signature.path) == *key.root;
     Verdict {
         refusal: 0,
-        good: top == *key.root,
+        good,
         steps,
+        leaf: if good { signature.leaf } else { 0 },
     }
 }

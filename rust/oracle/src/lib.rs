@@ -1,4 +1,4 @@
-//! Document 01, document 02 No. 1 and 2 where these say otherwise, and its No. 4, in plain Rust,
+//! Document 01, document 02 No. 1, 2 and 5 where these say otherwise, and its No. 4, in plain Rust,
 //! written from the papers alone, to compare the library with.
 
 mod book;
@@ -18,8 +18,8 @@ mod tree;
 mod vectors;
 
 pub use book::{
-    Book, Channel, Party, CHANNELS, DELAYS, DESK_DEFAULT, LARGEST, LONGEST_DELAY, PLAIN_DEFAULT,
-    SHORTEST_DELAY,
+    Book, Channel, Party, Remembered, CHANNELS, DELAYS, DESK_DEFAULT, LARGEST, LONGEST_DELAY,
+    PLAIN_DEFAULT, SHORTEST_DELAY,
 };
 pub use check::{check, Verdict, SIGNATURE, TYPES};
 pub use command::{length, Command, Order};

@@ -1,5 +1,6 @@
 //! A command on a book: checks, then what it changes and pays. A delay of 0 is read as document 02
-//! No. 1 has it, a customer who deposits nothing as its No. 2.
+//! No. 1 has it, a customer who deposits nothing as its No. 2, a leaf that is used again as its
+//! No. 5.
 use crate::book::{Book, Channel, Party};
 use crate::check::check;
 use crate::command::{Command, Order};
@@ -22,8 +23,8 @@ pub struct Answer {
 pub fn apply(book: &mut Book, bytes: &[u8]) -> Answer {
     let mut steps = 0;
     match accepted(book, bytes, &mut steps) {
-        Ok(command) => {
-            let (customer, merchant) = carry_out(book, &command);
+        Ok((command, leaf)) => {
+            let (customer, merchant) = carry_out(book, &command, leaf);
             Answer {
                 refusal: 0,
                 customer,
@@ -39,8 +40,11 @@ pub fn apply(book: &mut Book, bytes: &[u8]) -> Answer {
     }
 }
 
+/// A command, and the leaf of the merchant's signature where it has one.
+type Signed<'a> = (Command<'a>, Option<u32>);
+
 /// The command if every check says yes, else the refusal; counts the chain steps.
-fn accepted<'a>(book: &Book, bytes: &'a [u8], steps: &mut u32) -> Result<Command<'a>, u8> {
+fn accepted<'a>(book: &Book, bytes: &'a [u8], steps: &mut u32) -> Result<Signed<'a>, u8> {
     if !book.sound() {
         return Err(99);
     }
@@ -48,23 +52,27 @@ fn accepted<'a>(book: &Book, bytes: &'a [u8], steps: &mut u32) -> Result<Command
     if let Some(refusal) = rules::noes(book, &command).next() {
         return Err(refusal);
     }
-    if let Some(channel) = named(book, &command) {
-        let message = command.message(&book.id);
-        let mut signed = |party: &Party, signature: Option<&[u8]>| {
-            signature.is_none_or(|signature| {
-                let verdict = check(&party.key, &message, signature);
-                *steps += verdict.steps;
-                verdict.good
-            })
+    let Some(channel) = named(book, &command) else {
+        return Ok((command, None));
+    };
+    let message = command.message(&book.id);
+    let mut signed = |party: &Party, signature: Option<&[u8]>, refusal| {
+        let Some(signature) = signature else {
+            return Ok(None);
         };
-        if !signed(&channel.merchant, command.merchant_signature()) {
-            return Err(11);
+        let verdict = check(&party.key, &message, signature);
+        *steps += verdict.steps;
+        match verdict.good {
+            true => Ok(Some(verdict.leaf)),
+            false => Err(refusal),
         }
-        if !signed(&channel.customer, command.customer_signature()) {
-            return Err(12);
-        }
+    };
+    let leaf = signed(&channel.merchant, command.merchant_signature(), 11)?;
+    signed(&channel.customer, command.customer_signature(), 12)?;
+    match (command.order, leaf) {
+        (Order::Dispute { .. }, Some(leaf)) if channel.remembered.has(leaf) => Err(16),
+        _ => Ok((command, leaf)),
     }
-    Ok(command)
 }
 
 /// The checks 3 to 10 that say no to a command of whole length on a sound book, in their order.
@@ -75,8 +83,9 @@ pub fn noes(book: &Book, bytes: &[u8]) -> Vec<u8> {
     }
 }
 
-/// Changes the book and gives what is paid to customer and merchant.
-fn carry_out(book: &mut Book, command: &Command) -> (u64, u64) {
+/// Changes the book and gives what is paid to customer and merchant; `leaf` is that of the
+/// merchant's signature.
+fn carry_out(book: &mut Book, command: &Command, leaf: Option<u32>) -> (u64, u64) {
     if let Order::Clock { time } = command.order {
         book.clock = time;
     }
@@ -87,6 +96,7 @@ fn carry_out(book: &mut Book, command: &Command) -> (u64, u64) {
     let paid = payment(channel, command.order);
     let status = next_status(channel, command.order);
     store(channel, book.clock, book.default_delay, command.order);
+    remember(channel, command.order, leaf);
     channel.status = status;
     paid
 }
@@ -148,6 +158,15 @@ fn store(channel: &mut Channel, clock: u64, default_delay: u32, order: Order) {
             channel.deadline = clock + u64::from(channel.delay);
         }
         Order::MerchantCloses => channel.deadline = clock + u64::from(channel.delay),
+        _ => {}
+    }
+}
+
+/// Remembers the leaf of the merchant's signature in an 08 or 07.
+fn remember(channel: &mut Channel, order: Order, leaf: Option<u32>) {
+    match order {
+        Order::MerchantCloses => channel.remembered.in_08 = leaf,
+        Order::CustomerCloses { .. } => channel.remembered.in_07 = leaf,
         _ => {}
     }
 }

@@ -33,7 +33,7 @@ fn live(
     for &opcode in life {
         let deadline = pair.oracle.channels[usize::from(n)].deadline;
         let plan = terms.plan(opcode, deadline);
-        let command = plan.write(|party, message| world.wallet.sign(party, message));
+        let command = plan.write(|hand, message| world.wallet.sign(hand, message));
         let answer = pair.apply(&command, &mut world.tally)?;
         if answer.refusal != 0 {
             return Err(format!("{opcode:02X} refused with {}", answer.refusal));

@@ -109,8 +109,8 @@ fn check(rng: &mut Rng, _: &mut Fenced) -> Outcome {
         [key, signature, message].map(|bytes| lend(rng, bytes));
     let former = rng.below(2) as u8;
     let mut verdict = lend(rng, vec![former]);
-    let mut steps = Fenced::new(vec![0xff; 4], 4 * rng.below(2));
-    // SAFETY: the three buffers are readable, and verdict and steps are writable.
+    let [mut steps, mut leaf] = [(); 2].map(|()| Fenced::new(vec![0xff; 4], 4 * rng.below(2)));
+    // SAFETY: the three buffers are readable, and verdict, steps and leaf are writable.
     let refusal = unsafe {
         raw::finaruvom_check(
             key.pointer(),
@@ -121,13 +121,15 @@ fn check(rng: &mut Rng, _: &mut Fenced) -> Outcome {
             signature.length(),
             verdict.pointer(),
             steps.pointer(),
+            leaf.pointer(),
         )
     };
-    kept("check", &[&verdict, &steps], &[&key, &message, &signature])?;
+    let written = [&verdict, &steps, &leaf];
+    kept("check", &written, &[&key, &message, &signature])?;
     refused_with_2("check", refusal, message.length() > 1_024)?;
-    match verdict.bytes() {
-        [0 | 1] => Ok(()),
-        other => Err(format!("a verdict of {other:?}")),
+    match (verdict.bytes(), leaf.bytes()) {
+        ([0], [0, 0, 0, 0]) | ([1], [_, 0..=3, 0, 0]) => Ok(()),
+        other => Err(format!("verdict and leaf: {other:?}")),
     }
 }
 
@@ -177,7 +179,7 @@ fn apply(rng: &mut Rng, book: &mut Fenced) -> Outcome {
         unsafe { raw::finaruvom_apply(book.pointer(), command.pointer(), command.length()) };
     kept("apply", &[book], &[&command])?;
     match answer.refusal {
-        0..=12 | 99 => Ok(()),
+        0..=12 | 16 | 99 => Ok(()),
         other => Err(format!("a refusal of {other}")),
     }
 }

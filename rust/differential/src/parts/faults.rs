@@ -1,4 +1,5 @@
-//! Commands that are wrong in one to three things, and locks that are one bit off.
+//! Commands that are wrong in one to three things, locks that are one bit off, and leaves that are
+//! remembered.
 use super::World;
 use crate::arbitrary;
 use crate::maker::Maker;
@@ -15,9 +16,12 @@ pub fn case(rng: &mut Rng, world: &mut World) -> Outcome {
         world.tally.compared("commands wrong in some things");
     }
     for n in 0..64 {
+        let unsigned = maker.unsigned_dispute(&start.oracle, n);
+        start.clone().apply(&unsigned, &mut world.tally)?;
+        world.tally.compared("disputes signed by nobody");
         let command = maker.dispute(&start.oracle, n);
         start.clone().apply(&command, &mut world.tally)?;
-        world.tally.compared("disputes signed by nobody");
+        world.tally.compared("disputes signed with any leaf");
     }
     Ok(())
 }

@@ -92,7 +92,7 @@ pub fn compare(signed: &Signed, tally: &mut Tally) -> Result<bool, String> {
         (false, _) => "bad signatures",
     });
     let refusal = u32::from(expected.refusal);
-    let expected = (refusal, expected.good, expected.steps);
+    let expected = (refusal, expected.good, expected.steps, expected.leaf);
     same("check", &check(signed), &expected).map_err(|text| {
         format!(
             "{text}\nkey: {}\nmessage: {}\nsignature: {}",
@@ -104,15 +104,15 @@ pub fn compare(signed: &Signed, tally: &mut Tally) -> Result<bool, String> {
     Ok(expected.1)
 }
 
-/// The library's answer, and verdict and steps, which it must write whatever stood there.
-fn check(signed: &Signed) -> (u32, bool, u32) {
+/// The library's answer, and verdict, steps and leaf, which it must write whatever stood there.
+fn check(signed: &Signed) -> (u32, bool, u32, u32) {
     let Signed {
         key,
         message,
         signature,
     } = signed;
-    let (mut good, mut steps) = (true, u32::MAX);
-    // SAFETY: the three slices are readable, and verdict and steps are writable.
+    let (mut good, mut steps, mut leaf) = (true, u32::MAX, u32::MAX);
+    // SAFETY: the three slices are readable, and verdict, steps and leaf are writable.
     let refusal = unsafe {
         finaruvom_check(
             key.as_ptr(),
@@ -123,7 +123,8 @@ fn check(signed: &Signed) -> (u32, bool, u32) {
             signature.len(),
             &mut good,
             &mut steps,
+            &mut leaf,
         )
     };
-    (refusal, good, steps)
+    (refusal, good, steps, leaf)
 }

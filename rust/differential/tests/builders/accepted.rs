@@ -16,13 +16,14 @@ struct Desk<'a> {
 impl Desk<'_> {
     /// Gives both the command that the builder writes.
     fn file(&mut self, terms: &Terms, opcode: u8, time: u64) {
-        let sign = &mut |party, message: &[u8]| self.wallet.sign(party, message);
+        let sign = &mut |hand, message: &[u8]| self.wallet.sign(hand, message);
         let command = build(&terms.plan(opcode, time), sign).command;
+        let before = self.library.as_raw().clone();
         let answer = self.library.apply(&command);
         assert_eq!(answer.refused(), None, "{opcode:02X}");
         let expected = oracle::apply(&mut self.oracle, &command);
         assert_eq!(*answer.as_raw(), to_answer(&expected), "{opcode:02X}");
-        let book = to_raw(&self.oracle, self.library.as_raw());
+        let book = to_raw(&self.oracle, &before);
         assert!(*self.library.as_raw() == book, "{opcode:02X}");
     }
 }

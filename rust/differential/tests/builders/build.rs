@@ -1,5 +1,5 @@
 //! A plan through the builder of its command.
-use differential::plan::Plan;
+use differential::plan::{Hand, Plan};
 use finaruvom::command::{
     CustomerClose, Dispute, Establish, FundCustomer, FundMerchant, MerchantClose, MutualClose,
     Reclaim, SetClock, Settle, Signatures,
@@ -14,8 +14,8 @@ pub struct Built {
     pub message: Vec<u8>,
 }
 
-/// Signs as this party.
-type Sign<'a> = &'a mut dyn FnMut(usize, &[u8]) -> [u8; SIGNATURE_SIZE];
+/// Signs as this party, with its leaf.
+type Sign<'a> = &'a mut dyn FnMut(Hand, &[u8]) -> [u8; SIGNATURE_SIZE];
 
 /// The command of a plan, for the book with the plan's id.
 pub fn build(plan: &Plan, sign: Sign) -> Built {
@@ -95,7 +95,7 @@ fn signed_by_both(plan: &Plan, sign: Sign) -> Built {
         6 => mutual.message(&id).to_vec(),
         _ => alone.message(&id).to_vec(),
     };
-    let [merchant, customer] = plan.signers.map(|party| sign(party, &message));
+    let [merchant, customer] = plan.signers.map(|hand| sign(hand, &message));
     let signatures = Signatures {
         merchant: &merchant,
         customer: &customer,

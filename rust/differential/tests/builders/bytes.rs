@@ -1,6 +1,6 @@
 //! Builders with any operands write what plans write, and the oracle reads the operands back.
 use crate::build::build;
-use differential::plan::Plan;
+use differential::plan::{Hand, Plan};
 use differential::rng::Rng;
 use oracle::{digest, Command, Order, SIGNATURE};
 
@@ -17,14 +17,14 @@ fn plan(rng: &mut Rng, opcode: u8) -> Plan {
         keys: [rng.array(), rng.array()],
         delay: rng.number() as u32,
         string: rng.array(),
-        signers: [MERCHANT, CUSTOMER],
+        signers: [MERCHANT, CUSTOMER].map(Hand::from),
         signed: (opcode, rng.array(), n),
     }
 }
 
 /// Bytes that depend on signer and message, in the place of a signature.
-fn stand_in(party: usize, message: &[u8]) -> [u8; SIGNATURE] {
-    let start = digest(&[&[party as u8], message].concat());
+fn stand_in(hand: Hand, message: &[u8]) -> [u8; SIGNATURE] {
+    let start = digest(&[&[hand.party as u8], message].concat());
     std::array::from_fn(|at| start[at % 32].wrapping_add((at / 32) as u8))
 }
 
@@ -78,7 +78,7 @@ fn same_terms(plan: &Plan, order: Order) {
 
 /// Asserts that the oracle reads the message that was signed, and the signatures of it.
 fn same_signatures(plan: &Plan, command: &Command, message: &[u8]) {
-    let by = |party| Some(stand_in(party, message));
+    let by = |party: usize| Some(stand_in(party.into(), message));
     let [merchant, customer] = [command.merchant_signature(), command.customer_signature()]
         .map(|signature| signature.map(|bytes| bytes.try_into().unwrap()));
     let expected = match plan.opcode {

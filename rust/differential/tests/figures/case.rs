@@ -58,9 +58,9 @@ impl Case {
 
     /// The command's bytes.
     fn write(&self) -> Vec<u8> {
-        let mut bytes = self.plan.write(|party, message| match party {
+        let mut bytes = self.plan.write(|hand, message| match hand.party {
             NOBODY => [0; SIGNATURE],
-            _ => wallet().sign(party, message),
+            _ => wallet().sign(hand, message),
         });
         bytes[0] = self.first;
         bytes.resize(self.length, 0);
@@ -74,7 +74,7 @@ impl Case {
         let keys: &[&[u8; 56]] = match (self.plan.opcode, refusal) {
             (0x05, 0 | 12) => &[customer],
             (0x06 | 0x07, 0 | 12) => &[merchant, customer],
-            (0x06..=0x09, 0 | 11) => &[merchant],
+            (0x06..=0x09, 0 | 11 | 16) => &[merchant],
             _ => &[],
         };
         let start = match self.plan.opcode {

@@ -92,10 +92,10 @@ fn reclaimed() {
     let mut desk = Desk::credit();
     for signer in [1, 2, NOBODY] {
         let mut reclaim = plan(0x05, [0, 0]);
-        reclaim.signers[1] = signer;
-        let command = reclaim.write(|party, message| match party {
+        reclaim.signers[1].party = signer;
+        let command = reclaim.write(|hand, message| match hand.party {
             NOBODY => [0; SIGNATURE],
-            _ => wallet().sign(party, message),
+            _ => wallet().sign(hand, message),
         });
         let answer = *desk.book.apply(&command).as_raw();
         assert_eq!(Answer { steps: 0, ..answer }, refused(12));

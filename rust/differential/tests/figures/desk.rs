@@ -1,5 +1,5 @@
 //! A desk with the paper's figures: channel 0, deposits 900 and 100, delay 3,600, clock 1,000.
-use differential::plan::Plan;
+use differential::plan::{Hand, Plan};
 use differential::wallet::Wallet;
 use finaruvom::raw::{Answer, Channel};
 use finaruvom::{Book, Cents};
@@ -74,6 +74,13 @@ impl Desk {
         desk
     }
 
+    /// The channel closed by the merchant, and by the customer in answer.
+    pub fn answered() -> Desk {
+        let mut desk = Desk::merchant_closing();
+        assert_eq!(desk.give(0x07, [700, 300]), paid(0, 300));
+        desk
+    }
+
     pub fn channel(&self) -> &Channel {
         &self.book.as_raw().channels[0]
     }
@@ -86,7 +93,7 @@ impl Desk {
 
     /// Signs a command and gives it.
     pub fn file(&mut self, plan: &Plan) -> Answer {
-        let command = plan.write(|party, message| wallet().sign(party, message));
+        let command = plan.write(|hand, message| wallet().sign(hand, message));
         *self.book.apply(&command).as_raw()
     }
 
@@ -97,11 +104,18 @@ impl Desk {
     }
 }
 
-/// A command with these numbers, and the right operands beside them.
+/// A command with these numbers, and the right operands beside them. The merchant signs an 08 with
+/// leaf 7, a 07 with 9, a 09 with 8.
 pub fn plan(opcode: u8, numbers: [u64; 2]) -> Plan {
     let string = match opcode {
         0x09 => secret(),
         _ => finaruvom::hash(&secret()).unwrap(),
+    };
+    let leaf = match opcode {
+        0x07 => Some(9),
+        0x08 => Some(7),
+        0x09 => Some(8),
+        _ => None,
     };
     Plan {
         opcode,
@@ -110,7 +124,7 @@ pub fn plan(opcode: u8, numbers: [u64; 2]) -> Plan {
         keys: [0, 1].map(|party| wallet().key(party)),
         delay: 3_600,
         string,
-        signers: [1, 0],
+        signers: [Hand { party: 1, leaf }, 0.into()],
         signed: (opcode, ID, 0),
     }
 }

@@ -1,6 +1,6 @@
 //! Ways to make a command fail each check.
 use crate::case::{Case, NOBODY};
-use finaruvom::raw::Book;
+use finaruvom::raw::{Book, Leaves};
 use finaruvom::Seconds;
 
 /// Two keys, the customer's and the merchant's.
@@ -86,12 +86,21 @@ impl Case {
         }
     }
 
-    /// A wrong secret or a bad signature: by each for the other, by a third, or by nobody.
+    /// A wrong secret, a bad signature, by each for the other, by a third, or by nobody, or a leaf
+    /// that the channel remembers.
     fn failing_proof(&self, check: u8) -> Vec<Case> {
+        let Leaves { first, second } = self.book.channels[0].leaves;
         match check {
             10 => self.each(&[0, 31], |case, at| case.plan.string[at] ^= 1),
-            11 => self.each(&[0, 2, NOBODY], |case, party| case.plan.signers[0] = party),
-            _ => self.each(&[1, 2, NOBODY], |case, party| case.plan.signers[1] = party),
+            11 => self.each(&[0, 2, NOBODY], |case, party| {
+                case.plan.signers[0].party = party;
+            }),
+            12 => self.each(&[1, 2, NOBODY], |case, party| {
+                case.plan.signers[1].party = party;
+            }),
+            _ => self.each(&[first, second], |case, leaf| {
+                case.plan.signers[0].leaf = Some(leaf);
+            }),
         }
     }
 }

@@ -6,6 +6,7 @@ mod desk;
 mod edges;
 mod faults;
 mod keys;
+mod leaves;
 mod locks;
 mod names;
 mod order;

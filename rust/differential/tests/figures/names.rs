@@ -6,7 +6,7 @@ use finaruvom::Refusal;
 /// A refusal by its name, the check that it stands for, and a command that can fail it.
 type Row = (Refusal, u8, u8, fn() -> Desk);
 
-const ROWS: [Row; 13] = [
+const ROWS: [Row; 14] = [
     (Refusal::Unsound, 99, 0x01, Desk::new),
     (Refusal::Unknown, 1, 0x01, Desk::new),
     (Refusal::Length, 2, 0x01, Desk::new),
@@ -20,6 +20,7 @@ const ROWS: [Row; 13] = [
     (Refusal::Secret, 10, 0x09, Desk::closing),
     (Refusal::Merchant, 11, 0x06, Desk::open),
     (Refusal::Customer, 12, 0x06, Desk::open),
+    (Refusal::SpentLeaf, 16, 0x09, Desk::closing),
 ];
 
 #[test]

@@ -6,7 +6,7 @@ use finaruvom::Book;
 /// A command, the desk that carries it out, and the checks from 3 on that apply to it, in order.
 type Row = (u8, fn() -> Desk, &'static [u8]);
 
-const ROWS: [Row; 14] = [
+const ROWS: [Row; 15] = [
     (0x01, Desk::new, &[3]),
     (0x02, Desk::new, &[4, 5, 6, 7, 8]),
     (0x03, Desk::established, &[4, 5, 8]),
@@ -18,7 +18,8 @@ const ROWS: [Row; 14] = [
     (0x07, Desk::open, &[4, 5, 8, 11, 12]),
     (0x07, Desk::merchant_closing, &[4, 5, 8, 9, 11, 12]),
     (0x08, Desk::open, &[4, 5, 11]),
-    (0x09, Desk::closing, &[4, 5, 9, 10, 11]),
+    (0x09, Desk::closing, &[4, 5, 9, 10, 11, 16]),
+    (0x09, Desk::answered, &[4, 5, 9, 10, 11, 16]),
     (0x0a, || Desk::merchant_closing().at(4_600), &[4, 5, 9]),
     (0x0a, || Desk::closing().at(4_600), &[4, 5, 9]),
 ];

@@ -1,6 +1,8 @@
 //! The signature check: one bit turned over in any of its three strings, and a good signature is
-//! bad.
+//! bad. It hands back the leaf of a good one, and 0 for a bad one.
 use crate::desk::wallet;
+use differential::plan::Hand;
+use differential::wallet::LEAVES;
 
 const MESSAGE: &[u8] = b"opcode, book id, n, operands";
 
@@ -12,26 +14,37 @@ fn places() -> impl Iterator<Item = usize> {
     (0..8).chain(1_128..1_132).chain(starts).chain(ends)
 }
 
-/// The verdict on a good key, message and signature after a change of one of them.
-fn good(change: impl Fn(&mut [Vec<u8>; 3])) -> bool {
+/// Verdict and leaf of a good key, message and signature by this leaf after a change of one of them.
+fn checked(leaf: u32, change: impl Fn(&mut [Vec<u8>; 3])) -> (bool, u32) {
+    let hand = Hand {
+        party: 0,
+        leaf: Some(leaf),
+    };
     let [key, signature] = {
         let mut wallet = wallet();
-        [wallet.key(0).to_vec(), wallet.sign(0, MESSAGE).to_vec()]
+        [wallet.key(0).to_vec(), wallet.sign(hand, MESSAGE).to_vec()]
     };
     let mut strings = [key, MESSAGE.to_vec(), signature];
     change(&mut strings);
     let [key, message, signature] = &strings;
-    finaruvom::check(key, message, signature).unwrap().good
+    let verdict = finaruvom::check(key, message, signature).unwrap();
+    (verdict.good, verdict.leaf)
+}
+
+#[test]
+fn leaves() {
+    for leaf in LEAVES {
+        assert_eq!(checked(leaf, |_| ()), (true, leaf));
+    }
 }
 
 #[test]
 fn one_bit_off() {
-    assert!(good(|_| ()));
     let key = (0..56).map(|at| (0, at));
     let message = (0..MESSAGE.len()).map(|at| (1, at));
     let signature = places().map(|at| (2, at));
     for (string, at) in key.chain(message).chain(signature) {
-        let turned = good(|strings| strings[string][at] ^= 1 << (at % 8));
-        assert!(!turned, "byte {at} of string {string}");
+        let turned = checked(511, |strings| strings[string][at] ^= 1 << (at % 8));
+        assert_eq!(turned, (false, 0), "byte {at} of string {string}");
     }
 }

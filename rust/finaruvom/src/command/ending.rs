@@ -3,7 +3,8 @@ use super::writer::Writer;
 use crate::sizes::{DIGEST_SIZE, ID_SIZE, SIGNATURE_SIZE};
 
 /// 09: before the deadline the merchant shows the secret of the lock, and is paid what was kept for
-/// the customer.
+/// the customer. It is signed with another leaf than the merchant's signatures in the channel's 08
+/// and 07, which the channel remembers.
 ///
 /// ```
 /// use finaruvom::command::Dispute;

@@ -15,7 +15,7 @@ extern "C" {
     ///
     /// Nothing is asked.
     #[must_use]
-    pub fn finaruvom_layout_3() -> u32;
+    pub fn finaruvom_layout_4() -> u32;
 
     /// Writes the digest of at most 65,536 bytes and answers 0; of more, zeros and 2.
     ///
@@ -25,13 +25,13 @@ extern "C" {
     #[must_use]
     pub fn finaruvom_hash(bytes: *const u8, n: usize, digest: *mut u8) -> u32;
 
-    /// Writes verdict and chain steps and answers 0; for a message of more than 1,024 bytes no, 0
-    /// and 2.
+    /// Writes verdict, chain steps and the leaf that signed and answers 0; for a message of more
+    /// than 1,024 bytes no, 0, 0 and 2. The leaf is 0 where the verdict is no.
     ///
     /// # Safety
     ///
-    /// As many bytes as each length says can be read. `verdict`, which holds false or true, and
-    /// `steps` can be written and overlap nothing else of the call.
+    /// As many bytes as each length says can be read. `verdict`, which holds false or true, `steps`
+    /// and `leaf` can be written and overlap nothing else of the call.
     #[must_use]
     pub fn finaruvom_check(
         key: *const u8,
@@ -42,6 +42,7 @@ extern "C" {
         signature_n: usize,
         verdict: *mut bool,
         steps: *mut u32,
+        leaf: *mut u32,
     ) -> u32;
 
     /// The whole length of the command that begins with this byte; 0 where it begins none.

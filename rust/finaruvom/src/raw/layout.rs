@@ -1,7 +1,7 @@
 //! Size, alignment and places of all structs that cross the boundary, checked by the compiler.
 use super::{
-    Answer, Book, Channel, Found, Line, Node, Party, Ran, Reading, Settings, Setup, Signature,
-    Signer, Versions,
+    Answer, Book, Channel, Found, Leaves, Line, Node, Party, Ran, Reading, Settings, Setup,
+    Signature, Signer, Versions,
 };
 use crate::sizes::{BOOK_SIZE, SIGNER_SIZE};
 use core::mem::offset_of;
@@ -24,8 +24,9 @@ macro_rules! laid_out {
 }
 
 laid_out!(Party, 64, 8: key at 0, deposit at 56);
-laid_out!(Channel, 184, 8: customer at 0, merchant at 64, deadline at 128, kept at 136,
-    delay at 144, status at 148, lock at 152);
+laid_out!(Leaves, 8, 4: first at 0, second at 4);
+laid_out!(Channel, 192, 8: customer at 0, merchant at 64, deadline at 128, kept at 136,
+    delay at 144, status at 148, lock at 152, leaves at 184);
 laid_out!(Setup, 8, 8: delay at 0);
 laid_out!(Book, BOOK_SIZE, 8: mark at 0, id at 8, setup at 24, clock at 32, channels at 40);
 laid_out!(Settings, 4, 4: delay at 0);

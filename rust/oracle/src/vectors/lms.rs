@@ -24,18 +24,25 @@ fn value<'a>(words: &[&'a str], name: &str) -> &'a str {
     found.unwrap()
 }
 
+/// The leaf that a signature names.
+fn leaf(signature: &[u8]) -> u32 {
+    u32::from_be_bytes(*signature.first_chunk().unwrap())
+}
+
 #[test]
 fn verdicts() {
     let lines = lines(OWN);
     let cases: Vec<_> = lines.iter().filter(|words| words.len() > 2).collect();
     for words in &cases {
         let part = |name| bytes(value(words, name));
+        let (signature, good) = (part("signature"), value(words, "verdict") == "yes");
         let expected = Verdict {
             refusal: 0,
-            good: value(words, "verdict") == "yes",
+            good,
             steps: value(words, "steps").parse().unwrap(),
+            leaf: if good { leaf(&signature) } else { 0 },
         };
-        let verdict = check(&part("key"), &part("message"), &part("signature"));
+        let verdict = check(&part("key"), &part("message"), &signature);
         assert_eq!(verdict, expected, "{}", words[0]);
     }
     assert_eq!(cases.len(), 18);
@@ -50,7 +57,7 @@ fn key_and_signatures() {
     assert_eq!(good.clone().count(), 4);
     for words in good {
         let expected = bytes(value(words, "signature"));
-        till.next = u32::from_be_bytes(expected[..4].try_into().unwrap());
+        till.next = leaf(&expected);
         let signed = till.sign(&expected[8..40], &bytes(value(words, "message")));
         assert!(signed.signature[..] == expected, "{}", words[0]);
     }
@@ -62,6 +69,7 @@ fn message_too_long() {
         refusal: 2,
         good: false,
         steps: 0,
+        leaf: 0,
     };
     assert_eq!(check(&[], &[0; 1_025], &[]), no);
 }

@@ -15,7 +15,8 @@ fn make(seed: &[u8], identifier: &[u8]) -> (u8, Till) {
     }
 }
 
-/// Holds a signing to its line; an accepted signature is good under the signer's key.
+/// Holds a signing to its line; an accepted signature is good under the signer's key, and the check
+/// hands back its leaf.
 fn signs(till: &mut Till, words: &[&str]) {
     let message = bytes(words[2]);
     let mut moved = till.clone();
@@ -27,7 +28,8 @@ fn signs(till: &mut Till, words: &[&str]) {
     assert_eq!(signed, expected);
     let accepted = signed.refusal == 0;
     let verdict = check(&till.key, &message, &signed.signature);
-    assert_eq!(verdict.good, accepted);
+    let leaf = if accepted { moved.next } else { 0 };
+    assert_eq!((verdict.good, verdict.leaf), (accepted, leaf));
     moved.next += u32::from(accepted);
     assert_eq!(*till, moved);
 }
