@@ -13,7 +13,7 @@ use Rattle.machine.specs.Checks.{ask}
 use Rattle.machine.specs.Opening.{blankBook, fresh, opening}
 use Rattle.machine.specs.Rules.{delayed, keyed, establish, fundCustomer, fundMerchant, reclaim, mutualClose, customerClose, merchantClose, dispute, settle}
 use Rattle.machine.specs.Machine.{answer, concluded, ruling, verdict, plan, step}
-use Rattle.machine.specs.Ledger.{Paid, nothing, paidBy, entryAt, clock, strings, sum, opcodes, member, tally, eventOf, paid, after, Accounted}
+use Rattle.machine.specs.Ledger.{Paid, nothing, paidBy, entryAt, clock, strings, sum, opcodes, member, eventOf, paid, after, Accounted}
 use Rattle.machine.proofs.Reached.{yes, plain, opens, list, disputes, standing}
 use Rattle.machine.proofs.ThirdDemand.{third-demand}
 

@@ -5,7 +5,7 @@ use mathlib.Core.List.{List, [], _∷_}
 use Prim.Native.Nat.{ℕ, zero, suc, _+_, _≤_, _<_}
 use native.Mathlib.Omega.{arith}
 use lib.Dec.{eqb, leb}
-use lib.ListN.{length, getD, drop}
+use lib.ListN.{getD, drop}
 use borrow.Author.Tests.{eq-eqb, ne-eqb, eqb-false, le-leb, lt-leb, lt-ltb}
 use Rattle.lms.specs.Layout.{typedKey}
 use Rattle.machine.specs.Format.{opcode, time, place}
@@ -13,7 +13,7 @@ use Rattle.machine.specs.Book.{limit, ranged, layout, markOf, theMark, a
 use Rattle.machine.specs.Checks.{Check, test, Verdict, clean, ask, judge}
 use Rattle.machine.specs.Opening.{Opening, fresh, opening}
 use Rattle.machine.specs.Due.{due}
-use Rattle.machine.specs.Rules.{Plan, delayed, keyed, delayFits, depositsFit, establish, fundCustomer, fundMerchant, reclaim, mutualClose, customerClose, merchantClose, dispute, settle}
+use Rattle.machine.specs.Rules.{delayed, keyed, delayFits, depositsFit, establish, fundCustomer, fundMerchant, reclaim, mutualClose, customerClose, merchantClose, dispute, settle}
 use Rattle.machine.specs.Machine.{answer, concluded, ruling, Order, setClock, onChannel, formed, shared, carried, contextOf, noPlan, plans, plan, order, step}
 use Rattle.machine.specs.WrongTurns.{refusal, answered, rising, Keys, DisputesByLeaf, notOpened, Opens, Unsound, WrongTurns}
 use Rattle.machine.specs.declared.state.Party.{Party}
@@ -22,7 +22,7 @@ use Rattle.machine.specs.declared.state.Context.{Context}
 use Rattle.machine.specs.declared.state.Book.{Book}
 use Rattle.machine.specs.declared.answers.Judged.{Judged}
 use Rattle.wire.proofs.Laws.{same-refl}
-use Rattle.machine.proofs.Laws.{clash, and-middle, same-ne}
+use Rattle.machine.proofs.Laws.{and-middle, same-ne}
 use Rattle.machine.proofs.Judging.{judge-stop}
 use Rattle.machine.proofs.Plans.{each-plan}
 

@@ -1,12 +1,14 @@
--- The theorem at one seed and one list of three signings, of which the second is refused: two accepted ones, with different leaves, and both pass.
+-- The theorem at one seed and one list of three signings, of which the second is refused: two accepted ones, with different leaves, and both pass;
+-- so the check hands back different leaves.
 use Prim.Native.Nat.{ℕ}
 use native.Mathlib.Omega.{arith}
-use mathlib.Core.Path.{_≡_, refl}
+use mathlib.Core.Path.{_≡_, refl, sym, _∙_}
 use mathlib.Core.Bool.{true}
 use mathlib.Core.List.{List, [], _∷_}
 use lib.ListN.{replicate}
 use Rattle.lms.specs.Layout.{leaf}
 use Rattle.lms.specs.Check.{checkOf}
+use Rattle.lms.proofs.LeafLaw.{leafLaw}
 use Rattle.signer.specs.declared.state.Signer.{Signer}
 use Rattle.signer.specs.declared.state.SignedMessage.{SignedMessage}
 use Rattle.signer.specs.Nodes.{keyOf}
@@ -66,3 +68,6 @@ pub both-pass : ((checkOf (keyOf seed I) (good .message) (first .signature .byte
     × ((checkOf (keyOf seed I) (good .message) (third .signature .bytes)) .verdict ≡ true)
 unfolding makeOf signOf signings
 both-pass = (head (safe .passes) refl, head (tail (tail (safe .passes))) refl)
+
+pub handed-back-differ : (checkOf (keyOf seed I) (good .message) (first .signature .bytes)) .leaf ≡ (checkOf (keyOf seed I) (good .message) (third .signature .bytes)) .leaf → ⊥
+handed-back-differ e = leaves-differ (sym ((leafLaw _ _ _) .good (both-pass .0)) ∙ e ∙ (leafLaw _ _ _) .good (both-pass .1))
