@@ -52,7 +52,7 @@ fn deadline_from(clock: Seconds, delay: u32) -> Seconds
     Seconds(clock.0 + delay as u64)
 }
 
-// The leaves that a 07 with this one leaves remembered: that of the 08 which it answers, if any, and its own.
+// What a channel remembers after a 07 with this leaf: the leaf of the 08 that it answers, if it answers one, and its own.
 fn closing_leaves(ch: Channel, leaf: u32) -> Leaves
     ensures { λ r. ⌜ r ≡ closingLeaves leaf ch ⌝ }
 {

@@ -13,7 +13,7 @@ use Rattle.machine.specs.Checks.{ask}
 use Rattle.machine.specs.Opening.{blankBook, fresh, opening}
 use Rattle.machine.specs.Rules.{delayed, keyed, establish, fundCustomer, fundMerchant, reclaim, mutualClose, customerClose, merchantClose, dispute, settle}
 use Rattle.machine.specs.Machine.{answer, concluded, ruling, verdict, plan, step}
-use Rattle.machine.specs.Ledger.{Paid, nothing, paidBy, entryAt, clock, strings, sum, opcodes, member, eventOf, paid, after, Accounted}
+use Rattle.machine.specs.Ledger.{Paid, nothing, paidBy, entryAt, clock, strings, sum, opcodes, member, has, eventOf, paid, byMerchant, after, Accounted}
 use Rattle.machine.proofs.Reached.{yes, plain, opens, list, disputes, standing}
 use Rattle.machine.proofs.ThirdDemand.{third-demand}
 
@@ -29,15 +29,16 @@ abbrev pays : ℕ → ℕ → Paid
 pays customer merchant = record { customer = customer; merchant = merchant }
 
 -- In the last second the disputes of channels 5 and 7 are accepted, with leaves that were not used; the leaf of an accepted one was neither the
--- 07's nor the 08's. The equation and the splits with their figures: channels 5 and 7, the
--- merchant's alone, before and after the dispute, channel 2, and channel 8, reclaimed without a deposit. The refused 03 and the first 01 pay
--- nothing.
+-- 07's nor the 08's, and its signature is good. The equation and the splits with their figures: channels 5 and 7, the merchant's alone, before
+-- and after the dispute, channel 2, and channel 8, reclaimed without a deposit. The refused 03 and the first 01 pay nothing.
 record Applied : Type 0 where
   accepted : (step yes plain ((standing list) .book) (disputes 5 8)) .answer .refusal ≡ 0
   closing : 1000 ≡ 700 + 0 + 300
   over : 1000 ≡ 0 + 0 + 1000
   agreed : 1000 ≡ 0 + 400 + 600
   disputed : paid (strings 5 ((standing (list ++ disputes 5 8 ∷ [])) .history)) ≡ pays 0 1000
+  good-09 : (byMerchant yes opens (strings 5 ((standing (list ++ disputes 5 8 ∷ [])) .history)) 9 (disputes 5 8)) .good ≡ true
+  closed-first : has 7 (strings 5 ((standing (list ++ disputes 5 8 ∷ [])) .history)) ≡ true
   leaf-07 : _≡_ {A = ℕ} 8 9 → ⊥
   leaf-08 : _≡_ {A = ℕ} 8 7 → ⊥
   split : paid (strings 2 ((standing list) .history)) ≡ pays 400 600
@@ -65,6 +66,8 @@ applied =
       over = after .conserved;
       agreed = both .conserved;
       disputed = after .disputed refl;
+      good-09 = after .signed 9 refl refl;
+      closed-first = after .answers refl;
       leaf-07 = (after .leaf-once refl) .of-07;
       leaf-08 = (after .leaf-once refl) .of-08 refl;
       split = both .splits refl;

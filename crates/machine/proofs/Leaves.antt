@@ -12,7 +12,15 @@ use Rattle.machine.proofs.Laws.{or-neither}
 use Rattle.machine.proofs.Life.{Remembers}
 
 module _ (leaf : ℕ → List ℕ → ℕ) (l : List Event) (c : Channel) (m : Remembers leaf l (c .leaves .first) (c .leaves .second)) (d : List ℕ) where
-  -- A leaf that is not remembered is not that of the 07 or the 08.
+  -- A leaf that is neither that of the 07 nor of the 08 is not remembered.
+  pub unremembered : Unspent leaf l d → remembered (leaf 9 d) c ≡ false
+  unremembered u = rw (ne-eqb _ _ (go (has 8 l) refl (m .of-08)), ne-eqb _ _ (λ e. u .of-07 (e ∙ m .of-07)))
+    where
+      go : (x : Bool) → has 8 l ≡ x → c .leaves .first ≡ cond x (leaf 8 ((eventOf 8 l) .string)) (leaf 7 ((eventOf 7 l) .string)) → leaf 9 d ≡ c .leaves .first → ⊥
+      go true b f e = u .of-08 b (e ∙ f)
+      go false b f e = u .of-07 (e ∙ f)
+
+  -- And the other way.
   pub unspent : remembered (leaf 9 d) c ≡ false → Unspent leaf l d
   unspent h =
       let n = or-neither (eqb (leaf 9 d) (c .leaves .first)) _ h in
@@ -20,11 +28,3 @@ module _ (leaf : ℕ → List ℕ → ℕ) (l : List Event) (c : Channel) (m : R
         of-07 = λ e. eqb-false _ _ (n .1) (e ∙ sym (m .of-07));
         of-08 = λ b e. eqb-false _ _ (n .0) (e ∙ sym (m .of-08 ∙ rw b));
       }
-
-  -- And the other way.
-  pub unremembered : Unspent leaf l d → remembered (leaf 9 d) c ≡ false
-  unremembered u = rw (ne-eqb _ _ (go (has 8 l) refl (m .of-08)), ne-eqb _ _ (λ e. u .of-07 (e ∙ m .of-07)))
-    where
-      go : (x : Bool) → has 8 l ≡ x → c .leaves .first ≡ cond x (leaf 8 ((eventOf 8 l) .string)) (leaf 7 ((eventOf 7 l) .string)) → leaf 9 d ≡ c .leaves .first → ⊥
-      go true b f e = u .of-08 b (e ∙ f)
-      go false b f e = u .of-07 (e ∙ f)

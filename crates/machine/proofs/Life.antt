@@ -7,7 +7,7 @@ use lib.ListN.{getD}
 use Rattle.machine.specs.Format.{customerDeposit, merchantDeposit, delay, customerPart, merchantPart, lock, merchantKey}
 use Rattle.machine.specs.Book.{limit, shortest, longest, agreed}
 use Rattle.machine.specs.Rules.{delayed}
-use Rattle.machine.specs.Ledger.{Event, deposits, member, has, eventOf, closed, closings, paid, allMerchant, split, Unspent}
+use Rattle.machine.specs.Ledger.{Event, deposits, member, has, eventOf, closed, closings, paid, allMerchant, split, leaving, Unspent}
 use Rattle.machine.specs.declared.state.Channel.{Channel}
 use Rattle.machine.specs.declared.state.Setup.{Setup}
 
@@ -34,14 +34,19 @@ unfunded = 3 ∷ unmatched
 
 -- ---- what the strings say of the record
 
--- What they are read by: what the book keeps of its opening, and the leaf of the merchant's signature, by key, opcode and string.
+-- What they are read by: what the book keeps of its opening, and of a signature, by key, opcode and string, whether it is good and its leaf.
 pub record Basis : Type 0 where
   pub setup : Setup
+  pub good : List ℕ → ℕ → List ℕ → Bool
   pub leaf : List ℕ → ℕ → List ℕ → ℕ
 
 -- The leaf of the merchant's signature in a string, for his key in the accepted 02.
 abbrev pub leafIn : Basis → List Event → ℕ → List ℕ → ℕ
 leafIn x l = x .leaf (merchantKey ((eventOf 2 l) .string))
+
+-- The merchant's signature in each 07, 08 and 09 is good.
+abbrev pub Signed : (List ℕ → ℕ → List ℕ → Bool) → List Event → Type 0
+Signed good l = (k : ℕ) → member k leaving ≡ true → has k l ≡ true → good (merchantKey ((eventOf 2 l) .string)) k ((eventOf k l) .string) ≡ true
 
 -- It has the terms of the accepted 02, by what the book keeps of its opening, and they are in range.
 pub record Terms (x : Basis) (made : Bool) (s : List ℕ) (first second wait : ℕ) (key : List ℕ) : Type 0 where
@@ -92,6 +97,7 @@ pub record Waiting (x : Basis) (l : List Event) (c : Channel) : Type 0 where
   pub live : Live x unanswered (agreed c) l c
   pub begun : has 8 l ≡ true
   pub leaf : c .leaves .first ≡ leafIn x l 8 ((eventOf 8 l) .string)
+  pub signed : Signed (x .good) l
 
 -- In status 5: the customer is closing, b is paid and c is kept.
 pub record Leaving (x : Basis) (l : List Event) (c : Channel) : Type 0 where
@@ -100,6 +106,7 @@ pub record Leaving (x : Basis) (l : List Event) (c : Channel) : Type 0 where
   pub begun : has 7 l ≡ true
   pub closing : ClosingOf l c
   pub leaves : RemembersOf x l c
+  pub signed : Signed (x .good) l
   pub money : Money l (agreed c) 0 (merchantPart 7 ((eventOf 7 l) .string))
 
 -- In status 6: the deposits are paid out by the split of the way of closing.
@@ -112,6 +119,8 @@ pub record Over (x : Basis) (l : List Event) (c : Channel) : Type 0 where
   pub splits : paid l ≡ split l
   pub disputed : has 9 l ≡ true → paid l ≡ allMerchant l
   pub leaf-once : has 9 l ≡ true → Unspent (leafIn x l) l ((eventOf 9 l) .string)
+  pub answers : has 9 l ≡ true → has 7 l ≡ true
+  pub signed : Signed (x .good) l
   pub either : (has 6 l && has 7 l) ≡ false
 
 -- The invariant by status, 0 to 6.

@@ -1,18 +1,18 @@
 -- An accepted command leads a channel from its stage to the next, and its opcode had not come before.
 use mathlib.Core.Path.{_≡_, refl, ap, sym, subst, _∙_}
-use mathlib.Core.Bool.{Bool, true, false, cond, _&&_, _||_}
+use mathlib.Core.Bool.{Bool, true, false, false≢true, cond, _&&_, _||_}
 use mathlib.Core.List.{List, [], _∷_}
 use Prim.Native.Nat.{ℕ, zero, suc, _+_, _≤_, _<_}
 use native.Mathlib.Omega.{arith}
 use lib.Dec.{eqb, leb}
 use borrow.Author.Tests.{eqb-true, leb-true, ne-eqb, not-true}
 use Rattle.machine.specs.Checks.{Verdict}
-use Rattle.machine.specs.Format.{opcode, amount, customerDeposit, merchantDeposit, delay, customerPart, merchantPart, lock, signatures}
+use Rattle.machine.specs.Format.{opcode, amount, customerDeposit, merchantDeposit, delay, customerPart, merchantPart, lock, merchantKey, signatures}
 use Rattle.machine.specs.Book.{limit, shortest, longest, ranged, agreed, total, held, remembered, soundSetup}
 use Rattle.machine.specs.Book as book
 use Rattle.machine.specs.Rules.{Plan, moved, become, delayed, delayFits, established, establish, fundCustomer, fundMerchant, reclaim, mutualClose, customerClose, merchantClose, dispute, settle}
 use Rattle.machine.specs.Machine.{customerOf, merchantOf, verdict, plan}
-use Rattle.machine.specs.Ledger.{Event, deposits, sum, opcodes, member, tally, has, count, eventOf, closings, agreedCustomer, agreedTotal, paid, allMerchant, split, Unspent}
+use Rattle.machine.specs.Ledger.{Event, deposits, sum, opcodes, member, tally, has, count, eventOf, closings, agreedCustomer, agreedTotal, paid, allMerchant, split, leaving, Unspent}
 use Rattle.machine.specs.declared.state.Channel.{Channel}
 use Rattle.machine.specs.declared.state.Context.{Context}
 use Rattle.machine.specs.declared.answers.Answer.{Answer}
@@ -20,7 +20,7 @@ use Rattle.wire.proofs.Laws.{and-both}
 use Rattle.machine.proofs.Laws.{clash, in-range, or-neither, or-other, or-right}
 use Rattle.machine.proofs.Judging.{Passed}
 use Rattle.machine.proofs.Leaves.{unspent}
-use Rattle.machine.proofs.Life.{Basis, leafIn, Lacks, unclosed, unanswered, running, unmatched, unfunded, TermsOf, Money, Live, Waiting, Leaving, Over, StageAt, Stage}
+use Rattle.machine.proofs.Life.{Basis, leafIn, Signed, Lacks, unclosed, unanswered, running, unmatched, unfunded, TermsOf, Money, Live, Waiting, Leaving, Over, StageAt, Stage}
 
 -- ---- laws
 
@@ -32,6 +32,21 @@ fewer k ks l h i m = h i (or-right (eqb k i) (member i ks) m)
 pub lacks-none : (ks : List ℕ) → Lacks ks []
 unfolding opcodes member
 lacks-none ks k m = refl
+
+-- What holds of 07, 08 and 09 holds of each of them.
+each-leaving : (P : ℕ → Type 0) → P 7 → P 8 → P 9 → (k : ℕ) → member k leaving ≡ true → P k
+unfolding member
+each-leaving P a b c k = go (eqb 7 k) refl (eqb 8 k) refl (eqb 9 k) refl
+  where
+    go : (x : Bool) → eqb 7 k ≡ x → (y : Bool) → eqb 8 k ≡ y → (z : Bool) → eqb 9 k ≡ z → (x || (y || (z || false))) ≡ true → P k
+    go true e y f z g m = subst P (eqb-true 7 k e) a
+    go false e true f z g m = subst P (eqb-true 8 k f) b
+    go false e false f true g m = subst P (eqb-true 9 k g) c
+    go false e false f false g m = absurd (false≢true m)
+
+pub signed-none : (good : List ℕ → ℕ → List ℕ → Bool) (l : List Event) → Lacks running l → Signed good l
+unfolding member
+signed-none good l w = each-leaving (λ k. has k l ≡ true → good (merchantKey ((eventOf 2 l) .string)) k ((eventOf k l) .string) ≡ true) (λ h. absurd (clash h (w 7 refl))) (λ h. absurd (clash h (w 8 refl))) (λ h. absurd (clash h (w 9 refl)))
 
 paid-split : (l : List Event) (x y : ℕ) → split l ≡ record { customer = x; merchant = y } → (paid l) .customer ≡ x → (paid l) .merchant ≡ y → paid l ≡ split l
 paid-split l x y p q r = ap (λ (i : ℕ). record { customer = i; merchant = (paid l) .merchant }) q ∙ ap (λ (i : ℕ). record { customer = x; merchant = i }) r ∙ sym p
@@ -110,14 +125,28 @@ module _ (l : List Event) (s : List ℕ) (a : Answer) (k : ℕ) where
   unfolding opcodes member
   unspent-on leaf d a b u = record { of-07 = rw (event-skip 7 a) (u .of-07); of-08 = rw (b, event-skip 8 b) (u .of-08) }
 
-  -- What a rule reads: its setup is sound, and its clock is the history's. The leaf of a merchant's signature, by key, opcode and string.
-  module _ (c : Channel) (at : Context) (fixed : soundSetup (at .setup) ≡ true) (same : k ≡ at .clock .0) (leaf : List ℕ → ℕ → List ℕ → ℕ) where
+  signed-on : (good : List ℕ → ℕ → List ℕ → Bool) → eqb (opcode s) 2 ≡ false → (member (opcode s) leaving ≡ true → good (merchantKey ((eventOf 2 l) .string)) (opcode s) s ≡ true) → Signed good l → Signed good (next ∷ l)
+  unfolding opcodes member
+  signed-on good n g w i m = go (eqb (opcode s) i) refl
+    where
+      go : (b : Bool) → eqb (opcode s) i ≡ b → (b || has i l) ≡ true → good (merchantKey ((eventOf 2 (next ∷ l)) .string)) i ((eventOf i (next ∷ l)) .string) ≡ true
+      go true z h =
+          let e = eqb-true (opcode s) i z in
+          rw (event-skip 2 n, event-next i z) (subst (λ j. good (merchantKey ((eventOf 2 l) .string)) j s ≡ true) e (g (subst (λ j. member j leaving ≡ true) (sym e) m)))
+      go false z h = rw (event-skip 2 n, event-skip i z) (w i m h)
+
+  -- What a rule reads: its setup is sound, and its clock is the history's. Of a signature, by key, opcode and string:
+  -- whether it is good, and its leaf.
+  module _ (c : Channel) (at : Context) (fixed : soundSetup (at .setup) ≡ true) (same : k ≡ at .clock .0) (good : List ℕ → ℕ → List ℕ → Bool) (leaf : List ℕ → ℕ → List ℕ → ℕ) where
     abbrev basis : Basis
-    basis = record { setup = at .setup; leaf = leaf }
+    basis = record { setup = at .setup; good = good; leaf = leaf }
 
     terms-on : eqb (opcode s) 2 ≡ false → TermsOf basis l c → TermsOf basis (next ∷ l) c
     unfolding opcodes member
     terms-on o t = rw (event-skip 2 o, o) t
+
+    unsigned : eqb (opcode s) 2 ≡ false → member (opcode s) leaving ≡ false → Signed good l → Signed good (next ∷ l)
+    unsigned n m = signed-on good n (λ h. absurd (clash h m))
 
     abbrev pub Leads : ℕ → Plan → Type 0
     Leads op p =
@@ -182,6 +211,8 @@ module _ (l : List Event) (s : List ℕ) (a : Answer) (k : ℕ) where
             splits = paid-split (next ∷ l) (agreedCustomer (next ∷ l)) 0 (rw o) (omega (arith, pays-customer, t)) (omega (arith, pays-merchant));
             disputed = λ h. absurd (undisputed (rw o) (g′ .lacks 9 refl) h);
             leaf-once = λ h. absurd (undisputed (rw o) (g′ .lacks 9 refl) h);
+            answers = λ h. absurd (undisputed (rw o) (g′ .lacks 9 refl) h);
+            signed = unsigned (rw o) (rw o) (signed-none good l (fewer 4 running l (g′ .lacks)));
             either = rw (o, g′ .lacks 6 refl);
           },
           g′ .lacks 5 refl,
@@ -203,17 +234,22 @@ module _ (l : List Event) (s : List ℕ) (a : Answer) (k : ℕ) where
             splits = paid-split (next ∷ l) (customerPart 6 ((eventOf 6 (next ∷ l)) .string)) (merchantPart 6 ((eventOf 6 (next ∷ l)) .string)) (rw (o, g′ .lacks 5 refl)) (rw n (omega (arith, pays-customer))) (rw n (omega (arith, pays-merchant)));
             disputed = λ h. absurd (undisputed (rw o) (g′ .lacks 9 refl) h);
             leaf-once = λ h. absurd (undisputed (rw o) (g′ .lacks 9 refl) h);
+            answers = λ h. absurd (undisputed (rw o) (g′ .lacks 9 refl) h);
+            signed = unsigned (rw o) (rw o) (signed-none good l (g′ .lacks));
             either = rw (o, g′ .lacks 7 refl);
           },
           g′ .lacks 6 refl,
         )
 
-    -- A verdict on the merchant's signature in the string hands back its leaf.
+    -- A verdict is that on the merchant's signature in the string.
     abbrev Tells : ℕ → Verdict → Type 0
-    Tells op v = v .leaf ≡ leaf (c .merchant .key) op s
+    Tells op v = (v .good ≡ good (c .merchant .key) op s) × (v .leaf ≡ leaf (c .merchant .key) op s)
 
-    told-by : (op : ℕ) (v : Verdict) → TermsOf basis l c → Tells op v → v .leaf ≡ leafIn basis l op s
-    told-by op v t e = e ∙ ap (λ (key : List ℕ). leaf key op s) (t .signer)
+    leaf-by : (op : ℕ) (v : Verdict) → TermsOf basis l c → Tells op v → v .leaf ≡ leafIn basis l op s
+    leaf-by op v t e = e .1 ∙ ap (λ (key : List ℕ). leaf key op s) (t .signer)
+
+    signed-by : (op : ℕ) (v : Verdict) → opcode s ≡ op → eqb op 2 ≡ false → TermsOf basis l c → Tells op v → v .good ≡ true → Signed good l → Signed good (next ∷ l)
+    signed-by op v o n t e g = signed-on good (rw o n) (λ _. rw o (sym (e .0 ∙ ap (λ (key : List ℕ). good key op s) (t .signer)) ∙ g))
 
     leaves : (v w : Verdict) → Tells 7 v → Leads 7 (customerClose at (lock s) (customerPart 7 s) (merchantPart 7 s) v w c)
     unfolding customerClose opcodes member
@@ -222,18 +258,19 @@ module _ (l : List Event) (s : List ℕ) (a : Answer) (k : ℕ) where
         first : Bool → ℕ
         first x = cond x (v .leaf) (c .leaves .first)
 
-        close : (x : Bool) → Live basis unanswered (agreed c) l c → total c ≡ agreed c → first x ≡ cond (has 8 l) (leafIn basis l 8 ((eventOf 8 l) .string)) (v .leaf)
+        close : (x : Bool) → Live basis unanswered (agreed c) l c → Signed good l → total c ≡ agreed c → first x ≡ cond (has 8 l) (leafIn basis l 8 ((eventOf 8 l) .string)) (v .leaf)
             → Leaving basis (next ∷ l) (moved c 5 (at .clock .0 + c .delay) (customerPart 7 s) (lock s) (book.leaves (first x) (v .leaf))) × (has 7 l ≡ false)
-        close x g′ q r =
+        close x g′ w′ q r =
             let f = eqb-true (customerPart 7 s + merchantPart 7 s) (total c) (p .1 .0) in
             let n = event-next 7 (rw o) in
-            let u = told-by 7 v (g′ .terms) told in (
+            let u = leaf-by 7 v (g′ .terms) told in (
               record {
                 terms = terms-on (rw o) (g′ .terms);
                 lacks = lacks-on unclosed (rw o) (fewer 7 unclosed l (g′ .lacks));
                 begun = rw o;
                 closing = rw n (record { part = refl; whole = omega arith; lock′ = refl; due = omega arith });
                 leaves = rw (event-skip 2 (rw o)) (record { of-08 = rw (o, event-skip 8 (rw o), n) (r ∙ ap (cond (has 8 l) _) u); of-07 = rw n u });
+                signed = signed-by 7 v o refl (g′ .terms) told (p .1 .1 .1 .0) w′;
                 money = rw n (omega (arith, no-funds (rw o), pays-customer, pays-merchant));
               },
               g′ .lacks 7 refl,
@@ -242,11 +279,11 @@ module _ (l : List Event) (s : List ℕ) (a : Answer) (k : ℕ) where
         go : (x : Bool) → eqb (c .status) 3 ≡ x → Leaving basis (next ∷ l) (moved c 5 (at .clock .0 + c .delay) (customerPart 7 s) (lock s) (book.leaves (first x) (v .leaf))) × (has 7 l ≡ false)
         go true z =
             let h : Live basis running (agreed c) l c = found 3 z g in
-            close true (record { terms = h .terms; lacks = fewer 8 unanswered l (h .lacks); money = h .money }) (total-at c 2 (eqb-true (c .status) 3 z)) (rw (h .lacks 8 refl))
+            close true (record { terms = h .terms; lacks = fewer 8 unanswered l (h .lacks); money = h .money }) (signed-none good l (h .lacks)) (total-at c 2 (eqb-true (c .status) 3 z)) (rw (h .lacks 8 refl))
         go false z =
             let y = or-other (eqb (c .status) 3) (eqb (c .status) 4) (p .0) z in
             let h : Waiting basis l c = found 4 y g in
-            close false (h .live) (total-at c 3 (eqb-true (c .status) 4 y)) (rw (h .begun) (h .leaf))
+            close false (h .live) (h .signed) (total-at c 3 (eqb-true (c .status) 4 y)) (rw (h .begun) (h .leaf))
 
     closes : (v : Verdict) → Tells 8 v → Leads 8 (merchantClose at v c)
     unfolding merchantClose opcodes member
@@ -259,7 +296,8 @@ module _ (l : List Event) (s : List ℕ) (a : Answer) (k : ℕ) where
               money = omega (arith, no-funds (rw o), pays-customer, pays-merchant);
             };
             begun = rw o;
-            leaf = rw (event-next 8 (rw o), event-skip 2 (rw o)) (told-by 8 v (g′ .terms) told);
+            leaf = rw (event-next 8 (rw o), event-skip 2 (rw o)) (leaf-by 8 v (g′ .terms) told);
+            signed = signed-by 8 v o refl (g′ .terms) told (p .1 .0) (signed-none good l (g′ .lacks));
           },
           g′ .lacks 8 refl,
         )
@@ -272,7 +310,7 @@ module _ (l : List Event) (s : List ℕ) (a : Answer) (k : ℕ) where
         let e : split (next ∷ l) ≡ allMerchant (next ∷ l) = rw (o, g′ .lacks 5 refl, g′ .lacks 6 refl, g′ .begun, g′ .lacks 10 refl) in
         let q = paid-split (next ∷ l) 0 (agreedTotal (next ∷ l)) e (omega (arith, pays-customer)) (omega (arith, pays-merchant, t)) in
         let n : remembered (v .leaf) c ≡ false = not-true _ (p .1 .1 .1 .1 .0) in
-        let u = unspent (leafIn basis l) l c (g′ .leaves) s (rw (told-by 9 v (g′ .terms) told) at n) in (
+        let u = unspent (leafIn basis l) l c (g′ .leaves) s (rw (leaf-by 9 v (g′ .terms) told) at n) in (
           record {
             terms = t;
             single = single-on (g′ .lacks) (rw o (omega arith));
@@ -282,6 +320,8 @@ module _ (l : List Event) (s : List ℕ) (a : Answer) (k : ℕ) where
             splits = q;
             disputed = λ _. q ∙ e;
             leaf-once = λ _. rw (event-next 9 (rw o), event-skip 2 (rw o)) (unspent-on (leafIn basis l) s (rw o) (rw o) u);
+            answers = λ _. rw (o, g′ .begun);
+            signed = signed-by 9 v o refl (g′ .terms) told (p .1 .1 .1 .0) (g′ .signed);
             either = rw (o, g′ .lacks 6 refl);
           },
           g′ .lacks 9 refl,
@@ -308,6 +348,8 @@ module _ (l : List Event) (s : List ℕ) (a : Answer) (k : ℕ) where
                 splits = paid-split (next ∷ l) 0 (agreedTotal (next ∷ l)) (rw (o, g′ .lacks 5 refl, g′ .lacks 6 refl, g′ .lacks 7 refl, w .begun)) (omega (arith, pays-customer)) (omega (arith, pays-merchant, t));
                 disputed = λ h. absurd (undisputed (rw o) (g′ .lacks 9 refl) h);
                 leaf-once = λ h. absurd (undisputed (rw o) (g′ .lacks 9 refl) h);
+                answers = λ h. absurd (undisputed (rw o) (g′ .lacks 9 refl) h);
+                signed = unsigned (rw o) (rw o) (w .signed);
                 either = rw (o, g′ .lacks 6 refl);
               },
               g′ .lacks 10 refl,
@@ -327,6 +369,8 @@ module _ (l : List Event) (s : List ℕ) (a : Answer) (k : ℕ) where
                 splits = paid-split (next ∷ l) (customerPart 7 ((eventOf 7 (next ∷ l)) .string)) (merchantPart 7 ((eventOf 7 (next ∷ l)) .string)) (rw (o, g′ .lacks 5 refl, g′ .lacks 6 refl, g′ .begun)) (rw n (omega (arith, pays-customer))) (rw n (omega (arith, pays-merchant)));
                 disputed = λ h. absurd (undisputed (rw o) (g′ .lacks 9 refl) h);
                 leaf-once = λ h. absurd (undisputed (rw o) (g′ .lacks 9 refl) h);
+                answers = λ h. absurd (undisputed (rw o) (g′ .lacks 9 refl) h);
+                signed = unsigned (rw o) (rw o) (g′ .signed);
                 either = rw (o, g′ .lacks 6 refl);
               },
               g′ .lacks 10 refl,

@@ -135,7 +135,7 @@ module _ (check : List ℕ → List ℕ → List ℕ → Verdict) (hash : List �
   refused b s h = carried-stops (judge clean (shared b s ((order check hash b s) .checks))) b (order check hash b s) h
 
   pub right-turns : WrongTurns check hash
-  unfolding total readChannel ask delayed establish reclaim mutualClose customerClose merchantClose dispute settle answer concluded ruling
+  unfolding total readChannel ask delayed establish fundCustomer fundMerchant reclaim mutualClose customerClose merchantClose dispute settle answer concluded ruling
   right-turns = record {
     unsound = unsound;
     other-layout = other-layout;
@@ -162,9 +162,12 @@ module _ (check : List ℕ → List ℕ → List ℕ → Verdict) (hash : List �
       merchant-closes = refl;
       customer-closes = λ lock c b e. rw e;
       customer-answers = λ lock c b e. rw e;
+      customer-funds = λ cents. refl;
+      merchant-funds = λ cents. refl;
       reclaims = refl;
       agrees = λ c b. refl;
       disputes = λ hashed. refl;
+      settles = refl;
     };
     by-leaf = disputes-by-leaf;
     answers-any = answers-any;

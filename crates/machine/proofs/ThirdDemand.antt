@@ -8,7 +8,9 @@ use lib.ListN.{length, getD, set, length-set, length-replicate, getD-replicate}
 use lib.Seq.{getD-set-same, getD-set-other}
 use lib.Dec.{eqb, leb, ltb}
 use borrow.Author.Tests.{eqb-true, eqb-false, leb-true, ltb-true, le-leb, lt-ltb, eq-eqb}
+use Rattle.wire.specs.Numbers.{u32At}
 use Rattle.sha256.specs.Digest.{sha256}
+use Rattle.lms.proofs.LeafLaw.{leafLaw}
 use Rattle.machine.specs.Format.{opcode, size, time, place, delay, signatures, signature, message}
 use Rattle.machine.specs.Book.{cents, limit, theMark, soundChannel, all, soundSetup, sound, remembered, noChannel, channel, reading, readChannel}
 use Rattle.machine.specs.Checks.{Check, Verdict, clean, passed, judge}
@@ -16,7 +18,7 @@ use Rattle.machine.specs.Opening.{Opening, openingChecks, setupOf, unuse
 use Rattle.machine.specs.Rules.{delayed, establish, fundCustomer, fundMerchant, reclaim, mutualClose, customerClose, merchantClose, dispute, settle}
 use Rattle.machine.specs.Machine.{answer, Order, setClock, onChannel, shared, carried, contextOf, plans, plan, noPlan, planned, order, verdict, step}
 use Rattle.machine.specs.Real.{lmsVerdict}
-use Rattle.machine.specs.Ledger.{Entry, Event, accepted, ofChannel, clock, strings, ofNone, paidBy, nothing, entryAt, opcodes, tally, has, eventOf, Timely, Standing, recorded, after, leafOf, Disputes, Accounted, ThirdDemand}
+use Rattle.machine.specs.Ledger.{Entry, Event, accepted, ofChannel, clock, strings, ofNone, paidBy, nothing, entryAt, opcodes, member, tally, has, eventOf, leaving, Timely, Standing, recorded, after, leafOf, Disputes, Accounted, ThirdDemand}
 use Rattle.machine.specs.declared.state.Channel.{Channel}
 use Rattle.machine.specs.declared.state.Setup.{Setup}
 use Rattle.machine.specs.declared.state.Book.{Book}
@@ -56,9 +58,13 @@ unpaid-on e h f u (suc i) p n = u i (omega (arith, p)) n
 
 -- ---- the book agrees with its history
 
--- What the strings are read by: the book's setup, and the leaf that the check hands back.
+-- What the strings are read by: the book's setup, and what the check says.
 abbrev basisOf : (List ℕ → List ℕ → List ℕ → Verdict) → Book → Basis
-basisOf check b = record { setup = b .setup; leaf = λ key op s. (check key (message (signatures op) (b .id) s) (signature (signatures op) s)) .leaf }
+basisOf check b = record {
+  setup = b .setup;
+  good = λ key op s. (check key (message (signatures op) (b .id) s) (signature (signatures op) s)) .good;
+  leaf = λ key op s. (check key (message (signatures op) (b .id) s) (signature (signatures op) s)) .leaf;
+}
 
 record Agrees (check : List ℕ → List ℕ → List ℕ → Verdict) (o : Opening) (t : Standing) : Type 0 where
   mark : t .book .mark ≡ theMark
@@ -159,7 +165,7 @@ module _ (check : List ℕ → List ℕ → List ℕ → Verdict) (o : Opening) 
           l = strings (place s) (t .history)
 
           go : Stage (basisOf check (t .book)) (next l s (r .answer) (clock (t .history)) ∷ l) ((planned check hash (t .book) s) .channel) × (has (opcode s) l ≡ false)
-          go = moves l s (r .answer) (clock (t .history)) (channel (t .book) (place s)) (contextOf (t .book)) (i .fixed) (sym (i .now)) ((basisOf check (t .book)) .leaf) check hash (λ op. refl) (opcode s) refl (p .1) refl refl (i .stage (place s) lt)
+          go = moves l s (r .answer) (clock (t .history)) (channel (t .book) (place s)) (contextOf (t .book)) (i .fixed) (sym (i .now)) ((basisOf check (t .book)) .good) ((basisOf check (t .book)) .leaf) check hash (λ op. (refl, refl)) (opcode s) refl (p .1) refl refl (i .stage (place s) lt)
 
           Q : ℕ → Channel → Type 0
           Q n ch = n < 64 → Stage (basisOf check (t .book)) (strings n (e ∷ t .history)) ch × Once (strings n (e ∷ t .history))
@@ -245,6 +251,8 @@ module _ (check : List ℕ → List ℕ → List ℕ → Verdict) (hash : List �
           splits = f .splits;
           disputed = f .disputed;
           leaf-once = rw (i .same) at (f .leaf-once);
+          answers = f .answers;
+          signed = rw (i .same) at (f .signed);
           once = i .once n p;
           parted = one-of 6 7 (strings n (t .history)) (f .either) (i .once n p);
           single = f .single;
@@ -266,3 +274,8 @@ third-demand check hash lent o e l n p =
 -- Of the real machine.
 pub third-demand-met : ThirdDemand lmsVerdict sha256
 third-demand-met = third-demand lmsVerdict sha256
+
+-- Its leaves are bytes: that of an accepted 07, 08 or 09 is the first four of the merchant's signature.
+pub leaf-bytes : (o : Opening) (b : Book) (h : List Entry) (n : ℕ) (l : List Event) → Accounted lmsVerdict sha256 o b h n l
+    → (k : ℕ) → member k leaving ≡ true → has k l ≡ true → leafOf lmsVerdict o l k ((eventOf k l) .string) ≡ u32At (signature (signatures k) ((eventOf k l) .string)) 0
+leaf-bytes o b h n l a k m p = (leafLaw _ _ _) .good (a .signed k m p)

@@ -50,8 +50,8 @@ good steps leaf = record { good = true; steps = steps; leaf = leaf }
 abbrev pub left : (Channel → Plan) → Channel → Channel
 left rule ch = (ruling ch (rule ch)) .channel
 
--- With any keys and lock, any deadline d, kept part x and leaves before a closing, any step counts v and w, any leaf q where none is remembered
--- or looked at, and any id and setup of the book.
+-- With any keys and lock, any deadline d, kept part x and leaves before a closing, any step counts v and w, any leaf q, in a dispute in time one
+-- that is not remembered, and any id and setup of the book.
 module _ (key other lock id : List ℕ) (d x v w q : ℕ) (used : Leaves) (setup : Setup) where
   -- A book whose clock shows this time.
   abbrev pub showing : ℕ → Context

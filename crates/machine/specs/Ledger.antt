@@ -155,6 +155,10 @@ pub record Timely (o : Opening) (l : List Event) (now : ℕ) : Type 0 where
   pub unsettled : has 10 l ≡ false
   pub early : now < (eventOf 7 l) .clock + agreedDelay o l
 
+-- The commands of one side's closing that the merchant signs.
+abbrev pub leaving : List ℕ
+leaving = 7 ∷ 8 ∷ 9 ∷ []
+
 -- A 09 whose leaf differs from that of the accepted 07 and, where there is one, of the accepted 08: `leaf` tells, by the opcode, the leaf of the
 -- merchant's signature in a string.
 pub record Unspent (leaf : ℕ → List ℕ → ℕ) (l : List Event) (d : List ℕ) : Type 0 where
@@ -206,8 +210,11 @@ module _ (check : List ℕ → List ℕ → List ℕ → Verdict) (hash : List �
     pub elsewhere : (i : ℕ) → i < length h → ofNone (entryAt h i) ≡ true → paidBy ((entryAt h i) .answer) ≡ nothing
     pub dispute : Timely o l (clock h) → (d : List ℕ) → Disputes o n l d → (step check hash b d) .answer .refusal ≡ 0
     pub leaf-once : has 9 l ≡ true → Unspent (leafOf check o l) l ((eventOf 9 l) .string)
-    -- its words are well said: no string without a 02, each command at most once, one of 06 and 07, one that closes
+    -- its words are well said: no string without a 02, no 09 without a 07, each command at most once, one of 06 and 07, one that closes; and
+    -- the merchant's signature in a 07, 08 and 09 is good, so its leaf is the one that signed
     pub begun : (k : ℕ) → has k l ≡ true → has 2 l ≡ true
+    pub answers : has 9 l ≡ true → has 7 l ≡ true
+    pub signed : (k : ℕ) → member k leaving ≡ true → has k l ≡ true → (byMerchant check o l k ((eventOf k l) .string)) .good ≡ true
     pub once : (k : ℕ) → count k l < 2
     pub parted : count 6 l + count 7 l < 2
     pub single : closings l < 2

@@ -12,7 +12,7 @@ use Rattle.machine.specs.Book.{cents, seconds, limit, layout, markOf, to
 use Rattle.machine.specs.Checks.{Verdict, Check, numberOf}
 use Rattle.machine.specs.Opening.{Opening, fresh, opening}
 use Rattle.machine.specs.Due.{none, due}
-use Rattle.machine.specs.Rules.{Plan, keyed, delayFits, establish, reclaim, mutualClose, customerClose, merchantClose, dispute, settle}
+use Rattle.machine.specs.Rules.{Plan, keyed, delayFits, establish, fundCustomer, fundMerchant, reclaim, mutualClose, customerClose, merchantClose, dispute, settle}
 use Rattle.machine.specs.Machine.{ruling, formed, order, step}
 use Rattle.machine.specs.declared.state.Party.{Party}
 use Rattle.machine.specs.declared.state.Channel.{Channel}
@@ -57,14 +57,17 @@ pub record Deposits (at : Context) (customer merchant : Party) (d : ℕ) (ch : C
   pub some : 1 ≤ customer .deposit .0 + merchant .deposit .0 → customer .deposit .0 + merchant .deposit .0 ≤ limit → answered ch (establish at customer merchant d ch) ≡ refusal 0 0
 
 -- The merchant's leaf of an 08 is remembered alone, and so is that of a 07 that answers none; a 07 that answers an 08 keeps the 08's beside its
--- own. The leaves of a 05, a 06 and a 09 are not remembered.
+-- own. No other command remembers a leaf, or forgets one.
 pub record RemembersLeaves (at : Context) (v w : Verdict) (ch : Channel) : Type 0 where
   pub merchant-closes : ((merchantClose at v ch) .channel) .leaves ≡ leaves (v .leaf) (v .leaf)
   pub customer-closes : (lock : List ℕ) (c b : ℕ) → ch .status ≡ 3 → ((customerClose at lock c b v w ch) .channel) .leaves ≡ leaves (v .leaf) (v .leaf)
   pub customer-answers : (lock : List ℕ) (c b : ℕ) → ch .status ≡ 4 → ((customerClose at lock c b v w ch) .channel) .leaves ≡ leaves (ch .leaves .first) (v .leaf)
+  pub customer-funds : (cents : ℕ) → ((fundCustomer cents ch) .channel) .leaves ≡ ch .leaves
+  pub merchant-funds : (cents : ℕ) → ((fundMerchant cents ch) .channel) .leaves ≡ ch .leaves
   pub reclaims : ((reclaim v ch) .channel) .leaves ≡ ch .leaves
   pub agrees : (c b : ℕ) → ((mutualClose c b v w ch) .channel) .leaves ≡ ch .leaves
   pub disputes : (hashed : List ℕ) → ((dispute at hashed v ch) .channel) .leaves ≡ ch .leaves
+  pub settles : ((settle at ch) .channel) .leaves ≡ ch .leaves
 
 -- A dispute in time whose hash is the lock: a bad signature is refused with 11, whatever leaf its verdict has; a good one with 16 where its
 -- leaf is remembered, and its chain steps count; else it pays the kept part.
