@@ -91,6 +91,7 @@ static void file(const uint8_t *command, size_t size) {
     bool accepted = answer.refusal == FINARUVOM_ACCEPTED, closes = accepted && (command[0] == 7 || command[0] == 8);
     must(accepted || memcmp(&before, &book, sizeof book) == 0, "a refused command changes the book");
     must(accepted || (answer.customer == 0 && answer.merchant == 0), "a refused command pays");
+    must(answer.refusal != FINARUVOM_SPENT_LEAF || command[0] == 9, "a command that is no dispute is refused for its leaf");
     must(others_kept(closes ? n : FINARUVOM_CHANNELS), "a command that is no closing changes leaves");
     if (closes)
         closed(n, command);

@@ -192,7 +192,30 @@ static inline struct finaruvom_answer another_memory(struct finaruvom_book *book
     if (now.closes && now.channel->status == FINARUVOM_MERCHANT_CLOSING && now.channel->leaves.first == now.leaf)
         return (struct finaruvom_answer){.refusal = FINARUVOM_SPENT_LEAF};
 #endif
+#ifdef ANY_CHANNEL
+    static struct finaruvom_book before;
+    before = *book;
+#endif
     struct finaruvom_answer answer = right(book, command, command_n);
+#ifdef ANY_CHANNEL
+    for (struct finaruvom_channel *other = book->channels; other < book->channels + FINARUVOM_CHANNELS; other++)
+        if (now.disputes && other != now.channel && other->leaves.second == now.leaf && answer.refusal == FINARUVOM_ACCEPTED) {
+            *book = before;
+            answer = (struct finaruvom_answer){.steps = answer.steps, .refusal = FINARUVOM_SPENT_LEAF};
+        }
+#endif
+#ifdef FORGETS_THE_STEPS
+    if (answer.refusal == FINARUVOM_SPENT_LEAF)
+        answer.steps = 0;
+#endif
+#ifdef HALF_AN_08
+    if (command_n == 1455 && command[0] == 8 && answer.refusal == FINARUVOM_ACCEPTED)
+        book->channels[command[2]].leaves.second = UINT32_MAX;
+#endif
+#ifdef CUSTOMERS_LEAF
+    if (now.closes && answer.refusal == FINARUVOM_ACCEPTED)
+        now.channel->leaves.second = number(command + 1503);
+#endif
 #ifdef SPENT_FIRST
     if (now.disputes && answer.refusal == FINARUVOM_MERCHANT && (now.channel->leaves.first == now.leaf || now.channel->leaves.second == now.leaf))
         answer.refusal = FINARUVOM_SPENT_LEAF;

@@ -47,7 +47,7 @@ pub fn to_oracle(raw: &raw::Book) -> oracle::Book {
 }
 
 /// What the oracle remembers for a channel: nothing where nobody is closing, the leaf of the 08 in
-/// status 4.
+/// status 4, both in 5.
 fn to_remembered(channel: &raw::Channel) -> Remembered {
     let Leaves { first, second } = channel.leaves;
     Remembered {

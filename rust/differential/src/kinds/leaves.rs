@@ -49,7 +49,7 @@ const KINDS: [Kind; 9] = [
 ];
 
 impl Seen {
-    /// What is seen of a command, given to this book.
+    /// What is seen of a command that left this book.
     fn new(book: &Book, command: &[u8], refusal: u8) -> Option<Seen> {
         let parsed = Command::parse(command).ok()?;
         let leaf = parsed.merchant_signature()?.first_chunk()?;
