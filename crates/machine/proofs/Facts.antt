@@ -21,7 +21,7 @@ pub record Facts (x : Basis) (l : List Event) (c : Channel) : Type 0 where
   pub splits : closed l ≡ true → paid l ≡ split l
   pub disputed : has 9 l ≡ true → paid l ≡ allMerchant l
   pub leaf-once : has 9 l ≡ true → Unspent (leafIn x l) l ((eventOf 9 l) .string)
-  pub answers : has 9 l ≡ true → has 7 l ≡ true
+  pub follows : has 9 l ≡ true → has 7 l ≡ true
   pub signed : Signed (x .good) l
   pub either : (has 6 l && has 7 l) ≡ false
   pub single : closings l < 2
@@ -42,7 +42,7 @@ module _ (x : Basis) (l : List Event) (c : Channel) where
     splits = λ p. let q : closed l ≡ false = rw (w 5 refl, w 6 refl, w 9 refl, w 10 refl) in absurd (clash p q);
     disputed = λ p. absurd (clash p (w 9 refl));
     leaf-once = λ p. absurd (clash p (w 9 refl));
-    answers = λ p. absurd (clash p (w 9 refl));
+    follows = λ p. absurd (clash p (w 9 refl));
     signed = g;
     either = rw (w 6 refl);
     timely = λ p q r. t p;
@@ -71,7 +71,7 @@ module _ (x : Basis) (l : List Event) (c : Channel) where
     splits = λ _. g .splits;
     disputed = g .disputed;
     leaf-once = g .leaf-once;
-    answers = g .answers;
+    follows = g .follows;
     signed = g .signed;
     either = g .either;
     single = g .single;

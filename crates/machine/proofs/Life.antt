@@ -7,7 +7,7 @@ use lib.ListN.{getD}
 use Rattle.machine.specs.Format.{customerDeposit, merchantDeposit, delay, customerPart, merchantPart, lock, merchantKey}
 use Rattle.machine.specs.Book.{limit, shortest, longest, agreed}
 use Rattle.machine.specs.Rules.{delayed}
-use Rattle.machine.specs.Ledger.{Event, deposits, member, has, eventOf, closed, closings, paid, allMerchant, split, leaving, Unspent}
+use Rattle.machine.specs.Ledger.{Event, deposits, member, has, eventOf, closed, closings, paid, allMerchant, split, oneSided, Unspent}
 use Rattle.machine.specs.declared.state.Channel.{Channel}
 use Rattle.machine.specs.declared.state.Setup.{Setup}
 
@@ -46,7 +46,7 @@ leafIn x l = x .leaf (merchantKey ((eventOf 2 l) .string))
 
 -- The merchant's signature in each 07, 08 and 09 is good.
 abbrev pub Signed : (List ℕ → ℕ → List ℕ → Bool) → List Event → Type 0
-Signed good l = (k : ℕ) → member k leaving ≡ true → has k l ≡ true → good (merchantKey ((eventOf 2 l) .string)) k ((eventOf k l) .string) ≡ true
+Signed good l = (k : ℕ) → member k oneSided ≡ true → has k l ≡ true → good (merchantKey ((eventOf 2 l) .string)) k ((eventOf k l) .string) ≡ true
 
 -- It has the terms of the accepted 02, by what the book keeps of its opening, and they are in range.
 pub record Terms (x : Basis) (made : Bool) (s : List ℕ) (first second wait : ℕ) (key : List ℕ) : Type 0 where
@@ -119,7 +119,7 @@ pub record Over (x : Basis) (l : List Event) (c : Channel) : Type 0 where
   pub splits : paid l ≡ split l
   pub disputed : has 9 l ≡ true → paid l ≡ allMerchant l
   pub leaf-once : has 9 l ≡ true → Unspent (leafIn x l) l ((eventOf 9 l) .string)
-  pub answers : has 9 l ≡ true → has 7 l ≡ true
+  pub follows : has 9 l ≡ true → has 7 l ≡ true
   pub signed : Signed (x .good) l
   pub either : (has 6 l && has 7 l) ≡ false
 

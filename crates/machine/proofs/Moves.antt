@@ -12,7 +12,7 @@ use Rattle.machine.specs.Book.{limit, shortest, longest, ranged, agreed,
 use Rattle.machine.specs.Book as book
 use Rattle.machine.specs.Rules.{Plan, moved, become, delayed, delayFits, established, establish, fundCustomer, fundMerchant, reclaim, mutualClose, customerClose, merchantClose, dispute, settle}
 use Rattle.machine.specs.Machine.{customerOf, merchantOf, verdict, plan}
-use Rattle.machine.specs.Ledger.{Event, deposits, sum, opcodes, member, tally, has, count, eventOf, closings, agreedCustomer, agreedTotal, paid, allMerchant, split, leaving, Unspent}
+use Rattle.machine.specs.Ledger.{Event, deposits, sum, opcodes, member, tally, has, count, eventOf, closings, agreedCustomer, agreedTotal, paid, allMerchant, split, oneSided, Unspent}
 use Rattle.machine.specs.declared.state.Channel.{Channel}
 use Rattle.machine.specs.declared.state.Context.{Context}
 use Rattle.machine.specs.declared.answers.Answer.{Answer}
@@ -34,9 +34,9 @@ unfolding opcodes member
 lacks-none ks k m = refl
 
 -- What holds of 07, 08 and 09 holds of each of them.
-each-leaving : (P : ℕ → Type 0) → P 7 → P 8 → P 9 → (k : ℕ) → member k leaving ≡ true → P k
+each-one-sided : (P : ℕ → Type 0) → P 7 → P 8 → P 9 → (k : ℕ) → member k oneSided ≡ true → P k
 unfolding member
-each-leaving P a b c k = go (eqb 7 k) refl (eqb 8 k) refl (eqb 9 k) refl
+each-one-sided P a b c k = go (eqb 7 k) refl (eqb 8 k) refl (eqb 9 k) refl
   where
     go : (x : Bool) → eqb 7 k ≡ x → (y : Bool) → eqb 8 k ≡ y → (z : Bool) → eqb 9 k ≡ z → (x || (y || (z || false))) ≡ true → P k
     go true e y f z g m = subst P (eqb-true 7 k e) a
@@ -46,7 +46,7 @@ each-leaving P a b c k = go (eqb 7 k) refl (eqb 8 k) refl (eqb 9 k) refl
 
 pub signed-none : (good : List ℕ → ℕ → List ℕ → Bool) (l : List Event) → Lacks running l → Signed good l
 unfolding member
-signed-none good l w = each-leaving (λ k. has k l ≡ true → good (merchantKey ((eventOf 2 l) .string)) k ((eventOf k l) .string) ≡ true) (λ h. absurd (clash h (w 7 refl))) (λ h. absurd (clash h (w 8 refl))) (λ h. absurd (clash h (w 9 refl)))
+signed-none good l w = each-one-sided (λ k. has k l ≡ true → good (merchantKey ((eventOf 2 l) .string)) k ((eventOf k l) .string) ≡ true) (λ h. absurd (clash h (w 7 refl))) (λ h. absurd (clash h (w 8 refl))) (λ h. absurd (clash h (w 9 refl)))
 
 paid-split : (l : List Event) (x y : ℕ) → split l ≡ record { customer = x; merchant = y } → (paid l) .customer ≡ x → (paid l) .merchant ≡ y → paid l ≡ split l
 paid-split l x y p q r = ap (λ (i : ℕ). record { customer = i; merchant = (paid l) .merchant }) q ∙ ap (λ (i : ℕ). record { customer = x; merchant = i }) r ∙ sym p
@@ -125,14 +125,14 @@ module _ (l : List Event) (s : List ℕ) (a : Answer) (k : ℕ) where
   unfolding opcodes member
   unspent-on leaf d a b u = record { of-07 = rw (event-skip 7 a) (u .of-07); of-08 = rw (b, event-skip 8 b) (u .of-08) }
 
-  signed-on : (good : List ℕ → ℕ → List ℕ → Bool) → eqb (opcode s) 2 ≡ false → (member (opcode s) leaving ≡ true → good (merchantKey ((eventOf 2 l) .string)) (opcode s) s ≡ true) → Signed good l → Signed good (next ∷ l)
+  signed-on : (good : List ℕ → ℕ → List ℕ → Bool) → eqb (opcode s) 2 ≡ false → (member (opcode s) oneSided ≡ true → good (merchantKey ((eventOf 2 l) .string)) (opcode s) s ≡ true) → Signed good l → Signed good (next ∷ l)
   unfolding opcodes member
   signed-on good n g w i m = go (eqb (opcode s) i) refl
     where
       go : (b : Bool) → eqb (opcode s) i ≡ b → (b || has i l) ≡ true → good (merchantKey ((eventOf 2 (next ∷ l)) .string)) i ((eventOf i (next ∷ l)) .string) ≡ true
       go true z h =
           let e = eqb-true (opcode s) i z in
-          rw (event-skip 2 n, event-next i z) (subst (λ j. good (merchantKey ((eventOf 2 l) .string)) j s ≡ true) e (g (subst (λ j. member j leaving ≡ true) (sym e) m)))
+          rw (event-skip 2 n, event-next i z) (subst (λ j. good (merchantKey ((eventOf 2 l) .string)) j s ≡ true) e (g (subst (λ j. member j oneSided ≡ true) (sym e) m)))
       go false z h = rw (event-skip 2 n, event-skip i z) (w i m h)
 
   -- What a rule reads: its setup is sound, and its clock is the history's. Of a signature, by key, opcode and string:
@@ -145,7 +145,7 @@ module _ (l : List Event) (s : List ℕ) (a : Answer) (k : ℕ) where
     unfolding opcodes member
     terms-on o t = rw (event-skip 2 o, o) t
 
-    unsigned : eqb (opcode s) 2 ≡ false → member (opcode s) leaving ≡ false → Signed good l → Signed good (next ∷ l)
+    unsigned : eqb (opcode s) 2 ≡ false → member (opcode s) oneSided ≡ false → Signed good l → Signed good (next ∷ l)
     unsigned n m = signed-on good n (λ h. absurd (clash h m))
 
     abbrev pub Leads : ℕ → Plan → Type 0
@@ -211,7 +211,7 @@ module _ (l : List Event) (s : List ℕ) (a : Answer) (k : ℕ) where
             splits = paid-split (next ∷ l) (agreedCustomer (next ∷ l)) 0 (rw o) (omega (arith, pays-customer, t)) (omega (arith, pays-merchant));
             disputed = λ h. absurd (undisputed (rw o) (g′ .lacks 9 refl) h);
             leaf-once = λ h. absurd (undisputed (rw o) (g′ .lacks 9 refl) h);
-            answers = λ h. absurd (undisputed (rw o) (g′ .lacks 9 refl) h);
+            follows = λ h. absurd (undisputed (rw o) (g′ .lacks 9 refl) h);
             signed = unsigned (rw o) (rw o) (signed-none good l (fewer 4 running l (g′ .lacks)));
             either = rw (o, g′ .lacks 6 refl);
           },
@@ -234,7 +234,7 @@ module _ (l : List Event) (s : List ℕ) (a : Answer) (k : ℕ) where
             splits = paid-split (next ∷ l) (customerPart 6 ((eventOf 6 (next ∷ l)) .string)) (merchantPart 6 ((eventOf 6 (next ∷ l)) .string)) (rw (o, g′ .lacks 5 refl)) (rw n (omega (arith, pays-customer))) (rw n (omega (arith, pays-merchant)));
             disputed = λ h. absurd (undisputed (rw o) (g′ .lacks 9 refl) h);
             leaf-once = λ h. absurd (undisputed (rw o) (g′ .lacks 9 refl) h);
-            answers = λ h. absurd (undisputed (rw o) (g′ .lacks 9 refl) h);
+            follows = λ h. absurd (undisputed (rw o) (g′ .lacks 9 refl) h);
             signed = unsigned (rw o) (rw o) (signed-none good l (g′ .lacks));
             either = rw (o, g′ .lacks 7 refl);
           },
@@ -320,7 +320,7 @@ module _ (l : List Event) (s : List ℕ) (a : Answer) (k : ℕ) where
             splits = q;
             disputed = λ _. q ∙ e;
             leaf-once = λ _. rw (event-next 9 (rw o), event-skip 2 (rw o)) (unspent-on (leafIn basis l) s (rw o) (rw o) u);
-            answers = λ _. rw (o, g′ .begun);
+            follows = λ _. rw (o, g′ .begun);
             signed = signed-by 9 v o refl (g′ .terms) told (p .1 .1 .1 .0) (g′ .signed);
             either = rw (o, g′ .lacks 6 refl);
           },
@@ -348,7 +348,7 @@ module _ (l : List Event) (s : List ℕ) (a : Answer) (k : ℕ) where
                 splits = paid-split (next ∷ l) 0 (agreedTotal (next ∷ l)) (rw (o, g′ .lacks 5 refl, g′ .lacks 6 refl, g′ .lacks 7 refl, w .begun)) (omega (arith, pays-customer)) (omega (arith, pays-merchant, t));
                 disputed = λ h. absurd (undisputed (rw o) (g′ .lacks 9 refl) h);
                 leaf-once = λ h. absurd (undisputed (rw o) (g′ .lacks 9 refl) h);
-                answers = λ h. absurd (undisputed (rw o) (g′ .lacks 9 refl) h);
+                follows = λ h. absurd (undisputed (rw o) (g′ .lacks 9 refl) h);
                 signed = unsigned (rw o) (rw o) (w .signed);
                 either = rw (o, g′ .lacks 6 refl);
               },
@@ -369,7 +369,7 @@ module _ (l : List Event) (s : List ℕ) (a : Answer) (k : ℕ) where
                 splits = paid-split (next ∷ l) (customerPart 7 ((eventOf 7 (next ∷ l)) .string)) (merchantPart 7 ((eventOf 7 (next ∷ l)) .string)) (rw (o, g′ .lacks 5 refl, g′ .lacks 6 refl, g′ .begun)) (rw n (omega (arith, pays-customer))) (rw n (omega (arith, pays-merchant)));
                 disputed = λ h. absurd (undisputed (rw o) (g′ .lacks 9 refl) h);
                 leaf-once = λ h. absurd (undisputed (rw o) (g′ .lacks 9 refl) h);
-                answers = λ h. absurd (undisputed (rw o) (g′ .lacks 9 refl) h);
+                follows = λ h. absurd (undisputed (rw o) (g′ .lacks 9 refl) h);
                 signed = unsigned (rw o) (rw o) (g′ .signed);
                 either = rw (o, g′ .lacks 6 refl);
               },

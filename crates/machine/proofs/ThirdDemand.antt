@@ -18,7 +18,7 @@ use Rattle.machine.specs.Opening.{Opening, openingChecks, setupOf, unuse
 use Rattle.machine.specs.Rules.{delayed, establish, fundCustomer, fundMerchant, reclaim, mutualClose, customerClose, merchantClose, dispute, settle}
 use Rattle.machine.specs.Machine.{answer, Order, setClock, onChannel, shared, carried, contextOf, plans, plan, noPlan, planned, order, verdict, step}
 use Rattle.machine.specs.Real.{lmsVerdict}
-use Rattle.machine.specs.Ledger.{Entry, Event, accepted, ofChannel, clock, strings, ofNone, paidBy, nothing, entryAt, opcodes, member, tally, has, eventOf, leaving, Timely, Standing, recorded, after, leafOf, Disputes, Accounted, ThirdDemand}
+use Rattle.machine.specs.Ledger.{Entry, Event, accepted, ofChannel, clock, strings, ofNone, paidBy, nothing, entryAt, opcodes, member, tally, has, eventOf, oneSided, Timely, Standing, recorded, after, leafOf, Disputes, Accounted, ThirdDemand}
 use Rattle.machine.specs.declared.state.Channel.{Channel}
 use Rattle.machine.specs.declared.state.Setup.{Setup}
 use Rattle.machine.specs.declared.state.Book.{Book}
@@ -251,7 +251,7 @@ module _ (check : List ℕ → List ℕ → List ℕ → Verdict) (hash : List �
           splits = f .splits;
           disputed = f .disputed;
           leaf-once = rw (i .same) at (f .leaf-once);
-          answers = f .answers;
+          follows = f .follows;
           signed = rw (i .same) at (f .signed);
           once = i .once n p;
           parted = one-of 6 7 (strings n (t .history)) (f .either) (i .once n p);
@@ -277,5 +277,5 @@ third-demand-met = third-demand lmsVerdict sha256
 
 -- Its leaves are bytes: that of an accepted 07, 08 or 09 is the first four of the merchant's signature.
 pub leaf-bytes : (o : Opening) (b : Book) (h : List Entry) (n : ℕ) (l : List Event) → Accounted lmsVerdict sha256 o b h n l
-    → (k : ℕ) → member k leaving ≡ true → has k l ≡ true → leafOf lmsVerdict o l k ((eventOf k l) .string) ≡ u32At (signature (signatures k) ((eventOf k l) .string)) 0
+    → (k : ℕ) → member k oneSided ≡ true → has k l ≡ true → leafOf lmsVerdict o l k ((eventOf k l) .string) ≡ u32At (signature (signatures k) ((eventOf k l) .string)) 0
 leaf-bytes o b h n l a k m p = (leafLaw _ _ _) .good (a .signed k m p)

@@ -156,8 +156,8 @@ pub record Timely (o : Opening) (l : List Event) (now : ℕ) : Type 0 where
   pub early : now < (eventOf 7 l) .clock + agreedDelay o l
 
 -- The commands of one side's closing that the merchant signs.
-abbrev pub leaving : List ℕ
-leaving = 7 ∷ 8 ∷ 9 ∷ []
+abbrev pub oneSided : List ℕ
+oneSided = 7 ∷ 8 ∷ 9 ∷ []
 
 -- A 09 whose leaf differs from that of the accepted 07 and, where there is one, of the accepted 08: `leaf` tells, by the opcode, the leaf of the
 -- merchant's signature in a string.
@@ -213,8 +213,8 @@ module _ (check : List ℕ → List ℕ → List ℕ → Verdict) (hash : List �
     -- its words are well said: no string without a 02, no 09 without a 07, each command at most once, one of 06 and 07, one that closes; and
     -- the merchant's signature in a 07, 08 and 09 is good, so its leaf is the one that signed
     pub begun : (k : ℕ) → has k l ≡ true → has 2 l ≡ true
-    pub answers : has 9 l ≡ true → has 7 l ≡ true
-    pub signed : (k : ℕ) → member k leaving ≡ true → has k l ≡ true → (byMerchant check o l k ((eventOf k l) .string)) .good ≡ true
+    pub follows : has 9 l ≡ true → has 7 l ≡ true
+    pub signed : (k : ℕ) → member k oneSided ≡ true → has k l ≡ true → (byMerchant check o l k ((eventOf k l) .string)) .good ≡ true
     pub once : (k : ℕ) → count k l < 2
     pub parted : count 6 l + count 7 l < 2
     pub single : closings l < 2
