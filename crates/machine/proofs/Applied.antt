@@ -28,9 +28,10 @@ accounted l n p = third-demand yes plain blankBook opens refl l n p
 abbrev pays : ℕ → ℕ → Paid
 pays customer merchant = record { customer = customer; merchant = merchant }
 
--- In the last second the disputes of channels 5 and 7 are accepted, with leaves that were not used; the leaf of an accepted one was neither the
--- 07's nor the 08's, and its signature is good. The equation and the splits with their figures: channels 5 and 7, the merchant's alone, before
--- and after the dispute, channel 2, and channel 8, reclaimed without a deposit. The refused 03 and the first 01 pay nothing.
+-- In the last second the disputes of channels 5 and 7 are accepted, with leaves that were not used, on channel 7, where there is no 08, with
+-- leaf 0; the leaf of an accepted one was neither the 07's nor the 08's, and its signature is good. The equation and the splits with their
+-- figures: channels 5 and 7, the merchant's alone, before and after the dispute, channel 2, and channel 8, reclaimed without a deposit. The
+-- refused 03 and the first 01 pay nothing.
 record Applied : Type 0 where
   accepted : (step yes plain ((standing list) .book) (disputes 5 8)) .answer .refusal ≡ 0
   closing : 1000 ≡ 700 + 0 + 300
@@ -42,10 +43,10 @@ record Applied : Type 0 where
   leaf-07 : _≡_ {A = ℕ} 8 9 → ⊥
   leaf-08 : _≡_ {A = ℕ} 8 7 → ⊥
   split : paid (strings 2 ((standing list) .history)) ≡ pays 400 600
-  credit-accepted : (step yes plain ((standing list) .book) (disputes 7 1)) .answer .refusal ≡ 0
+  credit-accepted : (step yes plain ((standing list) .book) (disputes 7 0)) .answer .refusal ≡ 0
   credit-closing : 100 ≡ 70 + 0 + 30
   credit-over : 100 ≡ 0 + 0 + 100
-  credit-disputed : paid (strings 7 ((standing (list ++ disputes 7 1 ∷ [])) .history)) ≡ pays 0 100
+  credit-disputed : paid (strings 7 ((standing (list ++ disputes 7 0 ∷ [])) .history)) ≡ pays 0 100
   unfunded : 0 ≡ 0 + 0 + 0
   reclaimed : paid (strings 8 ((standing list) .history)) ≡ pays 0 0
   refused : paidBy ((entryAt ((standing list) .history) 11) .answer) ≡ nothing
@@ -58,7 +59,7 @@ applied =
     let after = accounted (list ++ disputes 5 8 ∷ []) 5 (omega arith) in
     let both = accounted list 2 (omega arith) in
     let credit = accounted list 7 (omega arith) in
-    let credit-after = accounted (list ++ disputes 7 1 ∷ []) 7 (omega arith) in
+    let credit-after = accounted (list ++ disputes 7 0 ∷ []) 7 (omega arith) in
     let returned = accounted list 8 (omega arith) in
     record {
       accepted = before .dispute (record { closing = refl; undisputed = refl; unsettled = refl; early = omega arith }) (disputes 5 8) (record { code = refl; whole = refl; named = refl; opens = refl; good = refl; unspent = record { of-07 = eqb-false 8 9 refl; of-08 = λ _. eqb-false 8 7 refl } });
@@ -71,7 +72,7 @@ applied =
       leaf-07 = (after .leaf-once refl) .of-07;
       leaf-08 = (after .leaf-once refl) .of-08 refl;
       split = both .splits refl;
-      credit-accepted = credit .dispute (record { closing = refl; undisputed = refl; unsettled = refl; early = omega arith }) (disputes 7 1) (record { code = refl; whole = refl; named = refl; opens = refl; good = refl; unspent = record { of-07 = eqb-false 1 0 refl; of-08 = λ h. absurd (false≢true h) } });
+      credit-accepted = credit .dispute (record { closing = refl; undisputed = refl; unsettled = refl; early = omega arith }) (disputes 7 0) (record { code = refl; whole = refl; named = refl; opens = refl; good = refl; unspent = record { of-07 = eqb-false 0 1 refl; of-08 = λ h. absurd (false≢true h) } });
       credit-closing = credit .conserved;
       credit-over = credit-after .conserved;
       credit-disputed = credit-after .disputed refl;

@@ -1,7 +1,8 @@
 -- A list by computing, so that the third demand speaks of books that are reached, with a check that always says yes and a hash that changes
 -- nothing, on a book opened with the desk's settings: channel 2 is closed by both; the customer closes channels 5 and 7, whose 02 has the delay
 -- 0; the clock shows the last second before the deadline of the default. On channel 5 the customer answers an 08 with leaf 7, by a 07 with leaf
--- 9; on channel 7 there is no 08, and the leaf is 0. Channels 7 and 8 are the merchant's alone to fund; channel 8 is reclaimed before he does.
+-- 9; on channel 7 there is no 08, the 07 has leaf 1, and leaf 0 is not used. Channels 7 and 8 are the merchant's alone to fund; channel 8 is
+-- reclaimed before he does.
 use mathlib.Core.Path.{_≡_, refl}
 use mathlib.Core.Bool.{true}
 use mathlib.Core.List.{List, [], _∷_, _++_}
@@ -75,7 +76,7 @@ list =
     ∷ closes 5 700 300 9
     ∷ agrees 7 0 100 0
     ∷ funds 4 7 100
-    ∷ closes 7 70 30 0
+    ∷ closes 7 70 30 1
     ∷ agrees 8 0 100 0
     ∷ (5 ∷ two 8 ++ replicate 1452 0)
     ∷ clocks 173799
@@ -94,12 +95,12 @@ record Reached (t : Standing) : Type 0 where
   spent-07 : (step yes plain (t .book) (disputes 5 9)) .answer .refusal ≡ 16
   spent-08 : (step yes plain (t .book) (disputes 5 7)) .answer .refusal ≡ 16
   spent-steps : (step yes plain (t .book) (disputes 5 7)) .answer .steps ≡ 510
-  spent-0 : (step yes plain (t .book) (disputes 7 0)) .answer .refusal ≡ 16
+  spent-alone : (step yes plain (t .book) (disputes 7 1)) .answer .refusal ≡ 16
   settles : (step yes plain (t .book) (10 ∷ two 5)) .answer .refusal ≡ 9
   late : (step yes plain ((step yes plain (t .book) (clocks 173800)) .book) (disputes 5 8)) .answer .refusal ≡ 9
-  credit-pays : (step yes plain (t .book) (disputes 7 1)) .answer .merchant .0 ≡ 70
+  credit-pays : (step yes plain (t .book) (disputes 7 0)) .answer .merchant .0 ≡ 70
   reclaimed : (reading (t .book) 8) .status ≡ 6
 
 reached : Reached (standing list)
 unfolding yes plain standing u16At u32At u64At same size message total held soundChannel sound fresh readChannel reading ask delayed keyed establish fundCustomer fundMerchant reclaim mutualClose customerClose merchantClose dispute settle answer concluded ruling verdict plan step after
-reached = record { status = refl; holds = refl; deadline = refl; disputed = refl; pays = refl; steps = refl; spent-07 = refl; spent-08 = refl; spent-steps = refl; spent-0 = refl; settles = refl; late = refl; credit-pays = refl; reclaimed = refl }
+reached = record { status = refl; holds = refl; deadline = refl; disputed = refl; pays = refl; steps = refl; spent-07 = refl; spent-08 = refl; spent-steps = refl; spent-alone = refl; settles = refl; late = refl; credit-pays = refl; reclaimed = refl }
