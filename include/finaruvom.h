@@ -34,7 +34,7 @@ extern "C" {
 
 // The version that this header belongs to, and the number of the book's layout, which the mark of every book carries.
 #define FINARUVOM_VERSION_MAJOR 0
-#define FINARUVOM_VERSION_MINOR 14
+#define FINARUVOM_VERSION_MINOR 15
 #define FINARUVOM_VERSION_PATCH 0
 #define FINARUVOM_LAYOUT 4
 
@@ -63,12 +63,18 @@ extern "C" {
 #define FINARUVOM_NODES 2048
 #define FINARUVOM_NODE_SIZE 32
 #define FINARUVOM_SIGNER_SIZE 65628
+#define FINARUVOM_PAYMENT_SIZE 24
+#define FINARUVOM_COUNTED_SIZE 16
+#define FINARUVOM_ENTRY_SIZE 11
 
 // Delays in seconds: the shortest and the longest, and what a delay of 0 stands for in a book of the plain opening and in a new one of the desk.
 #define FINARUVOM_SHORTEST_DELAY 3600
 #define FINARUVOM_LONGEST_DELAY 2592000
 #define FINARUVOM_PLAIN_DELAY 86400
 #define FINARUVOM_DESK_DELAY 172800
+
+// The largest amount of a bank line, in cents: fifteen digits.
+#define FINARUVOM_LARGEST_AMOUNT UINT64_C(999999999999999)
 
 // Bytes of stack that are enough for a call, the dynamic linker's part in a first call included.
 #define FINARUVOM_STACK_HASH 8192
@@ -80,6 +86,7 @@ extern "C" {
 #define FINARUVOM_STACK_DUE 20480
 #define FINARUVOM_STACK_MAKE_KEY 77824
 #define FINARUVOM_STACK_SIGN 147456
+#define FINARUVOM_STACK_BANK 8192
 
 // Refusals, in the order in which a call makes its checks.
 enum finaruvom_refusal {
@@ -100,6 +107,9 @@ enum finaruvom_refusal {
     FINARUVOM_MERCHANT = 11,
     FINARUVOM_CUSTOMER = 12,
     FINARUVOM_SPENT_LEAF = 16,     // a dispute with a leaf that the channel remembers
+    FINARUVOM_PAYMENT = 17,        // a payment to write has another party, a channel from 64 on, or an amount of 0 or of more than fifteen digits
+    FINARUVOM_ROOM = 18,           // the buffer or the lent list is too short, or the bytes to read are no multiple of 11
+    FINARUVOM_ENTRY = 19,          // an entry to read is not as one is written
 };
 
 enum finaruvom_status {
@@ -199,6 +209,25 @@ struct finaruvom_ran {
     uint64_t cause;
 };
 
+// Whom a payment is for.
+enum finaruvom_payee {
+    FINARUVOM_TO_CUSTOMER = 1,
+    FINARUVOM_TO_MERCHANT = 2,
+};
+
+// A payment of a list: the party as enum finaruvom_payee has it, the channel n and the amount in cents.
+struct finaruvom_payment {
+    uint64_t party;
+    uint64_t channel;
+    uint64_t amount;
+};
+
+// What collecting, writing and reading payments answer: the refusal, or 0, and the number of payments, which is 0 where it was refused.
+struct finaruvom_counted {
+    uint64_t refusal;
+    size_t payments;
+};
+
 // The version of the library that is linked, and the layout of its books.
 struct finaruvom_versions {
     uint32_t major;
@@ -239,6 +268,8 @@ FINARUVOM_ASSERT(sizeof(struct finaruvom_line) == FINARUVOM_LINE_SIZE, "line");
 FINARUVOM_ASSERT(sizeof(struct finaruvom_reading) == FINARUVOM_READING_SIZE, "reading");
 FINARUVOM_ASSERT(sizeof(struct finaruvom_found) == FINARUVOM_FOUND_SIZE, "found");
 FINARUVOM_ASSERT(sizeof(struct finaruvom_ran) == FINARUVOM_RAN_SIZE, "ran");
+FINARUVOM_ASSERT(sizeof(struct finaruvom_payment) == FINARUVOM_PAYMENT_SIZE, "payment");
+FINARUVOM_ASSERT(sizeof(struct finaruvom_counted) == FINARUVOM_COUNTED_SIZE, "counted");
 FINARUVOM_ASSERT(sizeof(struct finaruvom_versions) == FINARUVOM_VERSIONS_SIZE, "versions");
 FINARUVOM_ASSERT(sizeof(struct finaruvom_node) == FINARUVOM_NODE_SIZE, "node");
 FINARUVOM_ASSERT(sizeof(struct finaruvom_signer) == FINARUVOM_SIGNER_SIZE, "signer");
@@ -311,6 +342,25 @@ FINARUVOM_CALL uint32_t finaruvom_make_key(struct finaruvom_signer *signer, cons
 // Duties: signer not null, aligned, alone; nonce, message not null, shared; stack FINARUVOM_STACK_SIGN.
 FINARUVOM_CALL struct finaruvom_signature finaruvom_sign(struct finaruvom_signer *signer, const uint8_t *nonce, size_t nonce_n, const uint8_t *message,
                                                          size_t message_n);
+
+// Collects the payments of a run, from its commands and its lines: each above zero, in the order of the commands, the customer's before the merchant's, with n
+// as the command has it. It goes through commands and lines side by side, whatever refusal a line shows, passes over 01 and its line, and ends where the run
+// would. A list that is too short gives 18 and keeps every entry; entries behind the last payment keep their content.
+// Duties: commands not null, shared; lines not null, lines_n of them, aligned, shared; list not null, list_n payments, aligned, alone; stack
+// FINARUVOM_STACK_BANK.
+FINARUVOM_CALL struct finaruvom_counted finaruvom_collect(const uint8_t *commands, size_t commands_n, const struct finaruvom_line *lines, size_t lines_n,
+                                                          struct finaruvom_payment *list, size_t list_n);
+
+// Writes every payment of the list as an entry of FINARUVOM_ENTRY_SIZE bytes: the party in one, n in two, the amount in eight of packed decimal, fifteen digits
+// and C. A payment that no entry can hold, anywhere in the list, gives 17, then a buffer that is too short 18, and it keeps every byte; bytes behind the last
+// entry keep their content.
+// Duties: list not null, list_n payments, aligned, shared; buffer not null, alone; stack FINARUVOM_STACK_BANK.
+FINARUVOM_CALL struct finaruvom_counted finaruvom_write(const struct finaruvom_payment *list, size_t list_n, uint8_t *buffer, size_t buffer_n);
+
+// Reads such entries back into the list. A length that is no multiple of FINARUVOM_ENTRY_SIZE or a list that is too short gives 18, then an entry that
+// finaruvom_write does not write 19, and the list keeps every entry; entries behind the last payment keep their content.
+// Duties: bytes not null, shared; list not null, list_n payments, aligned, alone; stack FINARUVOM_STACK_BANK.
+FINARUVOM_CALL struct finaruvom_counted finaruvom_read_payments(const uint8_t *bytes, size_t bytes_n, struct finaruvom_payment *list, size_t list_n);
 
 #ifdef __cplusplus
 }

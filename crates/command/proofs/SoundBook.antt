@@ -14,8 +14,8 @@ use Rattle.machine.specs.declared.state.Channel.{Channel}
 use Rattle.machine.specs.declared.state.Book.{Book}
 use Rattle.wire.proofs.Laws.{and-both}
 
--- A test of all channels holds at any place: past the end the default stands in.
-all-at : (p : Channel → Bool) (l : List Channel) (i : ℕ) (d : Channel) → p d ≡ true → all p l ≡ true → p (getD l i d) ≡ true
+-- A test of all of a list holds at any place: past the end the default stands in.
+all-at : {A : Type 0} (p : A → Bool) (l : List A) (i : ℕ) (d : A) → p d ≡ true → all p l ≡ true → p (getD l i d) ≡ true
 all-at p [] i d o e = o
 all-at p (x ∷ l) zero d o e = (and-both (p x) (all p l) e) .0
 all-at p (x ∷ l) (suc i) d o e = all-at p l i d o ((and-both (p x) (all p l) e) .1)
@@ -40,7 +40,7 @@ sound-at b n e = all-at soundChannel (b .channels) n noChannel refl ((sound-part
 
 -- ---- the test of the channels one by one
 
-all-more : (p : Channel → Bool) (l : List Channel) (i : ℕ) (d : Channel) → i < length l → (all p (take i l) && p (getD l i d)) ≡ all p (take (suc i) l)
+pub all-more : {A : Type 0} (p : A → Bool) (l : List A) (i : ℕ) (d : A) → i < length l → (all p (take i l) && p (getD l i d)) ≡ all p (take (suc i) l)
 all-more p [] i d h = let z : ⊥ = omega arith in absurd z
 all-more p (x ∷ l) zero d h = sym (and-true (p x))
 all-more p (x ∷ l) (suc i) d h = and-assoc (p x) (all p (take i l)) (p (getD l i d)) ∙ ap (λ (t : Bool). p x && t) (all-more p l i d (omega arith))

@@ -12,7 +12,7 @@ use borrow.Author.Tests.{eq-eqb, ne-eqb, lt-ltb, le-ltb}
 use Rattle.machine.specs.Format.{size}
 use Rattle.machine.specs.declared.state.Book.{Book}
 use Rattle.journal.specs.declared.lines.Line.{Line}
-use Rattle.journal.specs.declared.next.Ahead.{Ahead}
+use Rattle.journal.specs.declared.following.Ahead.{Ahead}
 use Rattle.journal.specs.declared.runs.Ran.{Ran}
 use Rattle.journal.specs.Runs.{Next, stop, nextBy, nextOf, aheadOf, turnedOf, Done, stopped, prefixed, runOf, ranOf}
 use Rattle.journal.proofs.Turning.{fits, run-go, run-stop, prefixed-none, prefixed-twice}

@@ -8,7 +8,7 @@ use Rattle.machine.specs.Format.{opcode, size}
 use Rattle.machine.specs.Real.{realStep}
 use Rattle.machine.specs.declared.state.Book.{Book}
 use Rattle.journal.specs.declared.lines.Line.{Line}
-use Rattle.journal.specs.declared.next.Ahead.{Ahead}
+use Rattle.journal.specs.declared.following.Ahead.{Ahead}
 use Rattle.journal.specs.declared.runs.Ran.{Ran}
 
 -- ---- what comes next

@@ -87,9 +87,9 @@ soundTerms ch =
 unfoldable pub soundChannel : Channel → Bool
 soundChannel ch = leb (ch .status) 6 && (eqb (ch .status) 0 || soundTerms ch)
 
-abbrev pub all : (Channel → Bool) → List Channel → Bool
+abbrev pub all : {A : Type 0} → (A → Bool) → List A → Bool
 all p [] = true
-all p (ch ∷ l) = p ch && all p l
+all p (x ∷ l) = p x && all p l
 
 -- What the opening fixed is in its limits.
 abbrev pub soundSetup : Setup → Bool

@@ -5,11 +5,11 @@ use mathlib.Core.Path.{_≡_, sym, ap}
 use mathlib.Core.List.{List}
 use lib.ListN.{length, take, length-take}
 use lib.Seq.{paste}
+use Rattle.wire.specs.Parts.{pasted}
+use Rattle.wire.proofs.Pasting.{take-pasted}
 use Rattle.io.specs.Counts.{Counts}
 use Rattle.report.specs.declared.texts.Text.{Text}
-use Rattle.report.specs.Numbers.{pasted}
 use Rattle.report.specs.Parts.{noBytes, stored, shown}
-use Rattle.report.proofs.Pasting.{take-pasted}
 
 -- What the code leaves in a buffer.
 pub text-stored : (out d t : List ℕ) (n : ℕ) → d ≡ noBytes → out ≡ pasted d 0 t → n ≡ length t → _≡_ {A = Text} (record { bytes = out; size = n }) (stored t)

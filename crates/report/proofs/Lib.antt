@@ -1,7 +1,6 @@
--- Numbers as text; texts over bytes; rows and lines; texts in a buffer; the run of a part; runs as text; the parts joined; printing them.
+-- Numbers as text; rows and lines; texts in a buffer; the run of a part; runs as text; the parts joined; printing them.
 pub mod Numerals
 pub mod Examples
-pub mod Pasting
 pub mod Rows
 pub mod Buffers
 pub mod Going

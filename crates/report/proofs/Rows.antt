@@ -6,11 +6,12 @@ use mathlib.Core.Path.{_≡_, sym, ap, _∙_}
 use mathlib.Core.List.{List, [], _∷_, _++_}
 use lib.ListN.{length, take, drop, getD, drop-of-length-le, length-append, length-take}
 use lib.Seq.{drop-cons, append-snoc, getD-take, paste}
+use Rattle.wire.specs.Parts.{pasted}
+use Rattle.wire.proofs.Pasting.{pasted-more}
 use Rattle.journal.specs.declared.lines.Line.{Line}
-use Rattle.report.specs.Numbers.{decimal, closer, row, pasted}
+use Rattle.report.specs.Numbers.{decimal, closer, row}
 use Rattle.report.specs.Lines.{fields, linesFrom, endWord, endLine}
 use Rattle.report.specs.Statement.{noLine}
-use Rattle.report.proofs.Pasting.{pasted-more}
 
 -- The last number is closed by 0A, any other by a blank.
 pub closes-last : (ns : List ℕ) (k : ℕ) → k ≡ length ns → 10 ≡ closer (drop k ns)

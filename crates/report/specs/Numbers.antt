@@ -3,8 +3,6 @@ use Prim.Native.Nat.{ℕ, zero, suc, _+_, _/_, _%_}
 use mathlib.Core.Bool.{cond}
 use mathlib.Core.List.{List, [], _∷_, _++_}
 use lib.Dec.{ltb}
-use lib.ListN.{length}
-use lib.Seq.{paste}
 
 -- A digit in ASCII.
 abbrev pub digit : ℕ → ℕ
@@ -28,7 +26,3 @@ closer (n ∷ ns) = 0x20
 unfoldable pub row : List ℕ → List ℕ
 row [] = []
 row (n ∷ ns) = decimal n ++ (closer ns ∷ row ns)
-
--- The bytes d with the text t over them from place at on.
-unfoldable pub pasted : List ℕ → ℕ → List ℕ → List ℕ
-pasted d at t = paste d at t (length t)

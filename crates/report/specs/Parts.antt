@@ -5,6 +5,7 @@ use mathlib.Core.Bool.{Bool, true, false, cond}
 use mathlib.Core.List.{List, [], _∷_, _++_}
 use lib.Dec.{eqb, ltb}
 use lib.ListN.{length, take, drop, replicate}
+use Rattle.wire.specs.Parts.{pasted}
 use Rattle.machine.specs.Opening.{blankBook}
 use Rattle.machine.specs.declared.state.Book.{Book}
 use Rattle.journal.specs.declared.lines.Line.{Line}
@@ -13,7 +14,6 @@ use Rattle.journal.specs.Runs.{Done, runOf, ranOf}
 use Rattle.report.specs.declared.parts.Part.{Part}
 use Rattle.report.specs.declared.parts.Reached.{Reached}
 use Rattle.report.specs.declared.texts.Text.{Text}
-use Rattle.report.specs.Numbers.{pasted}
 use Rattle.report.specs.Lines.{linesFrom, endLine, noBook, tooLong}
 use Rattle.report.specs.Statement.{noLines, openedBy, statementOf}
 

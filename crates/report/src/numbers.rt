@@ -5,7 +5,8 @@ ghost use mathlib.Core.List.{[], _∷_, _++_};
 ghost use Prim.Native.Nat.{_+_, _*_, _<_, _≤_};
 ghost use lib.ListN.{length, take, drop};
 ghost use Rattle.io.specs.Counts.{Counts};
-ghost use Rattle.report.specs.Numbers.{decimal, closer, row, pasted};
+ghost use Rattle.wire.specs.Parts.{pasted};
+ghost use Rattle.report.specs.Numbers.{decimal, closer, row};
 
 // A number's digits, at the start of the bytes.
 struct Digits {

@@ -15,7 +15,7 @@ numbered! {
     /// assert_eq!(Cause::try_from(2), Ok(Cause::CutShort));
     /// assert_eq!(Cause::try_from(3), Err(UnknownNumber(3)));
     /// ```
-    Cause {
+    Cause: u8 {
         NoBytes = 0: "no bytes left",
         NoLine = 13: "no line left",
         UnknownByte = 1: "the first byte is no command",

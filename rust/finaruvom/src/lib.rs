@@ -23,6 +23,9 @@
 //!
 //! `examples/life.rs` goes through the life of three channels, with real signatures.
 //!
+//! What a run paid goes to the bank by [`bank`]: as a list of payments, and as entries of packed
+//! decimal.
+//!
 //! A till's half is the [`Signer`], which signs each message with a leaf of its own.
 //!
 //! The crate does without the standard library and allocates nothing but the memory of a signer. A
@@ -42,6 +45,7 @@ extern crate alloc;
 compile_error!("libfinaruvom.a is made for x86-64 Linux alone");
 
 mod answer;
+pub mod bank;
 mod book;
 pub mod command;
 mod journal;
@@ -69,8 +73,8 @@ pub use settings::Settings;
 pub use signature::{check, hash, Verdict};
 pub use signer::Signer;
 pub use sizes::{
-    BOOK_SIZE, CHANNELS, DESK_DELAY, DIGEST_SIZE, ID_SIZE, KEY_SIZE, LAYOUT, LEAVES, LONGEST_DELAY,
-    LONGEST_MESSAGE, NODES, NONCE_SIZE, PLAIN_DELAY, SEED_SIZE, SHORTEST_DELAY, SIGNATURE_SIZE,
-    SIGNER_SIZE,
+    BOOK_SIZE, CHANNELS, DESK_DELAY, DIGEST_SIZE, ENTRY_SIZE, ID_SIZE, KEY_SIZE, LARGEST_AMOUNT,
+    LAYOUT, LEAVES, LONGEST_DELAY, LONGEST_MESSAGE, NODES, NONCE_SIZE, PLAIN_DELAY, SEED_SIZE,
+    SHORTEST_DELAY, SIGNATURE_SIZE, SIGNER_SIZE,
 };
 pub use units::{Cents, Seconds};

@@ -25,14 +25,14 @@ pub(crate) fn named<T: TryFrom<u8>>(number: impl TryInto<u8>) -> T {
         .expect("the library answers the header's numbers alone")
 }
 
-/// Declares an enum by its variants, their numbers and what they mean in words.
+/// Declares an enum by its type in memory, its variants, their numbers and what they mean in words.
 macro_rules! numbered {
     (
         $(#[$attribute:meta])*
-        $name:ident { $($variant:ident = $number:literal: $words:literal,)+ }
+        $name:ident: $type:ident { $($variant:ident = $number:literal: $words:literal,)+ }
     ) => {
         $(#[$attribute])*
-        #[repr(u8)]
+        #[repr($type)]
         #[derive(Clone, Copy, Debug, PartialEq, Eq, Hash)]
         pub enum $name {
             $(

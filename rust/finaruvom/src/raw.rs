@@ -162,6 +162,29 @@ pub struct Ran {
     pub cause: u64,
 }
 
+/// A payment of a list. Any numbers may stand in it.
+#[repr(C)]
+#[derive(Clone, Copy, Debug, Default, PartialEq, Eq, Hash)]
+pub struct Payment {
+    /// The number of a [`Payee`](crate::bank::Payee), where it can be written.
+    pub party: u64,
+    /// The channel n.
+    pub channel: u64,
+    /// What is paid.
+    pub amount: Cents,
+}
+
+/// What collecting, writing and reading payments answer.
+#[must_use]
+#[repr(C)]
+#[derive(Clone, Copy, Debug, Default, PartialEq, Eq, Hash)]
+pub struct Counted {
+    /// The refusal's number, or 0.
+    pub refusal: u64,
+    /// How many payments; 0 where it was refused.
+    pub payments: usize,
+}
+
 /// A version of the library, and the layout of its books.
 #[must_use]
 #[repr(C)]

@@ -17,7 +17,7 @@ numbered! {
     /// assert_eq!(Status::try_from(6), Ok(Status::Closed));
     /// assert_eq!(Status::try_from(7), Err(UnknownNumber(7)));
     /// ```
-    Status {
+    Status: u8 {
         Unused = 0: "unused",
         AwaitingCustomer = 1: "awaiting the customer",
         AwaitingMerchant = 2: "awaiting the merchant",

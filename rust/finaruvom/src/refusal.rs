@@ -13,7 +13,7 @@ numbered! {
     /// assert_eq!(Refusal::try_from(5), Ok(Refusal::Status));
     /// assert_eq!(Refusal::try_from(0), Err(UnknownNumber(0)));
     /// ```
-    Refusal {
+    Refusal: u8 {
         Unknown = 1: "no first byte, or it is not 01 to 0A",
         Length = 2: "the length of the command, id, seed, nonce or message does not fit",
         Time = 3: "the time is before the clock or above 2^63 - 1",
@@ -29,16 +29,19 @@ numbered! {
         SettingsDelay = 14: "the default delay of the settings is not 3,600 to 2,592,000",
         NoLeaf = 15: "the signer's leaves are all used",
         SpentLeaf = 16: "the channel remembers the dispute's leaf",
+        Payment = 17: "no entry holds the payment's party, channel or amount",
+        Room = 18: "the buffer or the list is too short, or the bytes are no multiple of 11",
+        Entry = 19: "an entry is not as one is written",
         Unsound = 99: "the book is of no opening or another layout, or a value is out of range",
     }
 }
 
 impl Refusal {
     /// Nothing for 0, else the refusal with this number of the library.
-    pub(crate) fn checked(number: u32) -> Result<(), Refusal> {
-        match number {
+    pub(crate) fn checked(number: impl Into<u64>) -> Result<(), Refusal> {
+        match number.into() {
             0 => Ok(()),
-            _ => Err(named(number)),
+            number => Err(named(number)),
         }
     }
 }

@@ -1,4 +1,5 @@
 //! The header's sizes in bytes, and its other numbers.
+use crate::units::Cents;
 
 /// The number of the book's layout, which the mark of every book carries.
 pub const LAYOUT: u32 = 4;
@@ -26,6 +27,10 @@ pub const LEAVES: u32 = 1_024;
 pub const NODES: usize = 2_048;
 /// Bytes of a stored signer.
 pub const SIGNER_SIZE: usize = 65_628;
+/// Bytes of a payment's entry: party, channel in two, amount in eight.
+pub const ENTRY_SIZE: usize = 11;
+/// The largest amount that an entry holds, fifteen digits.
+pub const LARGEST_AMOUNT: Cents = Cents(999_999_999_999_999);
 /// The shortest delay in seconds.
 pub const SHORTEST_DELAY: u32 = 3_600;
 /// The longest delay in seconds.

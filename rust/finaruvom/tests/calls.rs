@@ -191,6 +191,9 @@ fn refusals_by_number() {
         (Refusal::SettingsDelay, 14),
         (Refusal::NoLeaf, 15),
         (Refusal::SpentLeaf, 16),
+        (Refusal::Payment, 17),
+        (Refusal::Room, 18),
+        (Refusal::Entry, 19),
         (Refusal::Unsound, 99),
     ];
     for (refusal, number) in numbers {

@@ -1,9 +1,11 @@
 //! The header's numbers are the crate's, and the archive's version and settings are those of both.
+use finaruvom::bank::Payee;
 use finaruvom::raw;
 use finaruvom::{
     version, Cause, Refusal, Settings, Status, UnknownNumber, Versions, BOOK_SIZE, CHANNELS,
-    DESK_DELAY, DIGEST_SIZE, ID_SIZE, KEY_SIZE, LAYOUT, LEAVES, LONGEST_DELAY, LONGEST_MESSAGE,
-    NODES, NONCE_SIZE, PLAIN_DELAY, SEED_SIZE, SHORTEST_DELAY, SIGNATURE_SIZE, SIGNER_SIZE,
+    DESK_DELAY, DIGEST_SIZE, ENTRY_SIZE, ID_SIZE, KEY_SIZE, LARGEST_AMOUNT, LAYOUT, LEAVES,
+    LONGEST_DELAY, LONGEST_MESSAGE, NODES, NONCE_SIZE, PLAIN_DELAY, SEED_SIZE, SHORTEST_DELAY,
+    SIGNATURE_SIZE, SIGNER_SIZE,
 };
 use std::collections::BTreeMap;
 use std::fmt::Debug;
@@ -18,8 +20,15 @@ fn defined() -> Numbers {
         .lines()
         .filter_map(|line| line.strip_prefix("#define FINARUVOM_"));
     let pairs = lines.filter_map(|line| line.split_once(' '));
-    let numbers = pairs.filter_map(|(name, value)| Some((name.into(), value.parse().ok()?)));
+    let numbers = pairs.filter_map(|(name, value)| Some((name.into(), number(value)?)));
     numbers.collect()
+}
+
+/// A number as it stands in C, plain or with 64 bits.
+fn number(value: &str) -> Option<usize> {
+    let wide = value.strip_prefix("UINT64_C(");
+    let digits = wide.and_then(|rest| rest.strip_suffix(')'));
+    digits.unwrap_or(value).parse().ok()
 }
 
 /// The numbers of one of the header's enums.
@@ -60,7 +69,7 @@ fn packaged() -> [u32; 3] {
 }
 
 /// The sizes of the crate's structs, by the header's names.
-fn structs() -> [(&'static str, usize); 12] {
+fn structs() -> [(&'static str, usize); 14] {
     [
         ("PARTY_SIZE", size_of::<raw::Party>()),
         ("CHANNEL_LEAVES_SIZE", size_of::<raw::Leaves>()),
@@ -72,6 +81,8 @@ fn structs() -> [(&'static str, usize); 12] {
         ("READING_SIZE", size_of::<raw::Reading>()),
         ("FOUND_SIZE", size_of::<raw::Found>()),
         ("RAN_SIZE", size_of::<raw::Ran>()),
+        ("PAYMENT_SIZE", size_of::<raw::Payment>()),
+        ("COUNTED_SIZE", size_of::<raw::Counted>()),
         ("VERSIONS_SIZE", size_of::<raw::Versions>()),
         ("NODE_SIZE", size_of::<raw::Node>()),
     ]
@@ -82,7 +93,7 @@ fn definitions() {
     let (stacks, mut defined): (Numbers, Numbers) = defined()
         .into_iter()
         .partition(|(name, _)| name.starts_with("STACK_"));
-    assert_eq!(stacks.len(), 9);
+    assert_eq!(stacks.len(), 10);
     let [major, minor, patch] = packaged();
     let crates = [
         ("VERSION_MAJOR", major as usize),
@@ -100,6 +111,8 @@ fn definitions() {
         ("LEAVES", LEAVES as usize),
         ("NODES", NODES),
         ("SIGNER_SIZE", SIGNER_SIZE),
+        ("ENTRY_SIZE", ENTRY_SIZE),
+        ("LARGEST_AMOUNT", LARGEST_AMOUNT.0 as usize),
         ("SHORTEST_DELAY", SHORTEST_DELAY as usize),
         ("LONGEST_DELAY", LONGEST_DELAY as usize),
         ("PLAIN_DELAY", PLAIN_DELAY as usize),
@@ -116,7 +129,7 @@ fn definitions() {
 fn refusals() {
     let mut listed = listed("refusal");
     assert_eq!(listed.remove("Accepted"), Some(0));
-    assert_eq!(listed.len(), 16);
+    assert_eq!(listed.len(), 19);
     assert_eq!(variants(Refusal::number), listed);
     assert_eq!(Refusal::try_from(13), Err(UnknownNumber(13)));
     assert_eq!(UnknownNumber(13).to_string(), "unknown number 13");
@@ -134,6 +147,15 @@ fn causes() {
     let listed = listed("cause");
     assert_eq!(listed.len(), 4);
     assert_eq!(variants(Cause::number), listed);
+}
+
+#[test]
+fn payees() {
+    let listed = listed("payee").into_iter();
+    let names = listed.map(|(name, number)| (name.replace("To", ""), number));
+    let named: Numbers = names.collect();
+    assert_eq!(named.len(), 2);
+    assert_eq!(variants(Payee::number), named);
 }
 
 #[test]

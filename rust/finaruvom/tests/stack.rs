@@ -1,12 +1,13 @@
 //! Every call but a signer's on a thread with the stack that the documentation names; `signer.rs`
 //! has those.
+use finaruvom::bank::{self, Payee, Payment};
 use finaruvom::command::{SetClock, Settle};
-use finaruvom::{check, hash, Book, Line, Refusal, Seconds, Settings};
+use finaruvom::{check, hash, Book, Line, Refusal, Seconds, Settings, ENTRY_SIZE, LARGEST_AMOUNT};
 use std::thread::Builder;
 
 const STACK: usize = 96 * 1_024;
 
-/// Everything that makes, changes or reads a book.
+/// Everything that makes, changes or reads a book, or goes to the bank.
 fn calls() -> Result<(), Refusal> {
     let mut book = Book::open(&[7; 16])?;
     book.reopen(&[8; 16])?;
@@ -14,12 +15,30 @@ fn calls() -> Result<(), Refusal> {
     let clock = SetClock { time: Seconds(9) };
     assert_eq!(book.apply(&clock.command()).refused(), None);
     let mut lines = [Line::default(); 4];
-    let ran = book.run(&Settle { channel: 0 }.command(), &mut lines);
+    let settle = Settle { channel: 0 }.command();
+    let ran = book.run(&settle, &mut lines);
     assert_eq!(ran.lines, 1);
+    assert_eq!(bank::collect(&settle, &lines, &mut [])?, 0);
+    banks()?;
     assert_eq!(book.read(63)?.total.0, 0);
     assert_eq!(book.due(), None);
     assert_eq!(hash(&[0; 100])?.len(), 32);
     assert!(!check(&[0; 56], &[], &[0; 1_452])?.good);
+    Ok(())
+}
+
+/// A payment written and read.
+fn banks() -> Result<(), Refusal> {
+    let payment = Payment {
+        party: Payee::Merchant,
+        channel: 63,
+        amount: LARGEST_AMOUNT,
+    };
+    let mut buffer = [0; ENTRY_SIZE];
+    assert_eq!(bank::write(&[payment], &mut buffer)?, 1);
+    let mut list = [Payment::default()];
+    assert_eq!(bank::read(&buffer, &mut list)?, 1);
+    assert_eq!(list, [payment]);
     Ok(())
 }
 

@@ -40,7 +40,7 @@ pub fn run(book: &mut Book, commands: &[u8], lines: &mut [Answer]) -> Ran {
 }
 
 /// The next command, or the cause to stop.
-fn next(rest: &[u8], line_left: bool) -> Result<&[u8], u8> {
+pub(crate) fn next(rest: &[u8], line_left: bool) -> Result<&[u8], u8> {
     let &first = rest.first().ok_or(0)?;
     if !line_left {
         return Err(13);

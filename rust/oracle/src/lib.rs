@@ -1,6 +1,7 @@
-//! Document 01, document 02 No. 1, 2 and 5 where these say otherwise, and its No. 4, in plain Rust,
-//! written from the papers alone, to compare the library with.
+//! Document 01, document 02 No. 1, 2 and 5 where these say otherwise, and its No. 4 and 6, in plain
+//! Rust, written from the papers alone, to compare the library with.
 
+pub mod bank;
 mod book;
 mod check;
 mod command;

@@ -1,4 +1,6 @@
 //! The vectors: published ones, and others from outside.
+mod bank;
+mod given;
 mod journals;
 mod lms;
 mod sha256;

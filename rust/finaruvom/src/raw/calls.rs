@@ -1,5 +1,8 @@
 //! The functions of the archive.
-use super::{Answer, Book, Found, Line, Ran, Reading, Settings, Signature, Signer, Versions};
+use super::{
+    Answer, Book, Counted, Found, Line, Payment, Ran, Reading, Settings, Signature, Signer,
+    Versions,
+};
 
 extern "C" {
     /// The library's version and layout.
@@ -154,4 +157,48 @@ extern "C" {
         message: *const u8,
         message_n: usize,
     ) -> Signature;
+
+    /// Collects the payments of a run from its commands and lines; a list that is too short gives
+    /// 18.
+    ///
+    /// # Safety
+    ///
+    /// `commands_n` bytes and `lines_n` lines, aligned, can be read. `list_n` payments are aligned,
+    /// can be written and overlap nothing else.
+    pub fn finaruvom_collect(
+        commands: *const u8,
+        commands_n: usize,
+        lines: *const Line,
+        lines_n: usize,
+        list: *mut Payment,
+        list_n: usize,
+    ) -> Counted;
+
+    /// Writes an entry of 11 bytes for each payment; one that no entry can hold gives 17, then a
+    /// buffer that is too short 18.
+    ///
+    /// # Safety
+    ///
+    /// `list_n` payments, aligned, can be read. `buffer_n` bytes can be written and overlap nothing
+    /// else.
+    pub fn finaruvom_write(
+        list: *const Payment,
+        list_n: usize,
+        buffer: *mut u8,
+        buffer_n: usize,
+    ) -> Counted;
+
+    /// Reads entries of 11 bytes back; another length or a list that is too short gives 18, then an
+    /// entry that is not as one is written 19.
+    ///
+    /// # Safety
+    ///
+    /// `bytes_n` bytes can be read. `list_n` payments are aligned, can be written and overlap
+    /// nothing else.
+    pub fn finaruvom_read_payments(
+        bytes: *const u8,
+        bytes_n: usize,
+        list: *mut Payment,
+        list_n: usize,
+    ) -> Counted;
 }

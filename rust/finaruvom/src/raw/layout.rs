@@ -1,7 +1,7 @@
 //! Size, alignment and places of all structs that cross the boundary, checked by the compiler.
 use super::{
-    Answer, Book, Channel, Found, Leaves, Line, Node, Party, Ran, Reading, Settings, Setup,
-    Signature, Signer, Versions,
+    Answer, Book, Channel, Counted, Found, Leaves, Line, Node, Party, Payment, Ran, Reading,
+    Settings, Setup, Signature, Signer, Versions,
 };
 use crate::sizes::{BOOK_SIZE, SIGNER_SIZE};
 use core::mem::offset_of;
@@ -36,6 +36,8 @@ laid_out!(Reading, 72, 8: total at 0, held at 8, deadline at 16, kept at 24, ref
     status at 36, lock at 40);
 laid_out!(Found, 2, 1: some at 0, channel at 1);
 laid_out!(Ran, 24, 8: lines at 0, used at 8, cause at 16);
+laid_out!(Payment, 24, 8: party at 0, channel at 8, amount at 16);
+laid_out!(Counted, 16, 8: refusal at 0, payments at 8);
 laid_out!(Versions, 16, 4: major at 0, minor at 4, patch at 8, layout at 12);
 laid_out!(Node, 32, 1: value at 0);
 laid_out!(Signer, SIGNER_SIZE, 4: key at 0, seed at 56, next at 88, nodes at 92);

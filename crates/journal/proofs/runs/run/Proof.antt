@@ -51,20 +51,20 @@ use Rattle.machine.proofs.state.Book as B
 use Rattle.lending.proofs.Lent.{slice-val, OwnSlice, slice-twice}
 use Rattle.journal.specs.Runs.{runOf}
 use Rattle.journal.specs.declared.lines.Line.{Line}
-use Rattle.journal.specs.declared.next.Ahead.{Ahead}
+use Rattle.journal.specs.declared.following.Ahead.{Ahead}
 use Rattle.journal.specs.declared.runs.Ran.{Ran}
 use Rattle.journal.proofs.Again as Again
 use Rattle.journal.proofs.Running.{State, start, AheadIs, TurnedIs, has-room, after-turn, run-ends}
 use Rattle.journal.proofs.Walking.{owns-usize, line-val, IsLine, owns-line}
 use Rattle.journal.proofs.lines.Line as T
 use Rattle.journal.proofs.lines.Line.Laws as T′
-use Rattle.journal.proofs.next.Ahead as X
-use Rattle.journal.proofs.next.Ahead.Laws as X′
+use Rattle.journal.proofs.following.Ahead as X
+use Rattle.journal.proofs.following.Ahead.Laws as X′
 use Rattle.journal.proofs.runs.Ran as R
 use Rattle.journal.proofs.runs.Ran.Laws as R′
-use Rattle.journal.proofs.next.next as next
-use Rattle.journal.proofs.next.next.Symbol as next-def
-use Rattle.journal.proofs.next.next.Met as next-thm
+use Rattle.journal.proofs.following.next as next
+use Rattle.journal.proofs.following.next.Symbol as next-def
+use Rattle.journal.proofs.following.next.Met as next-thm
 use Rattle.journal.proofs.turns.turn as turn
 use Rattle.journal.proofs.turns.turn.Symbol as turn-def
 use Rattle.journal.proofs.turns.turn.Met as turn-thm
@@ -386,6 +386,6 @@ run-spec 𝓤 H 𝓜 𝓖 𝓡 =
     entered 𝓤 H (tripleOf 𝓤 H (𝓖 .A) f.signature (f.spec 𝓤 H (𝓖 .A) (𝓜 .mem) (𝓡 .run))) (tables 𝓤 H 𝓜 𝓡 code.env .C) (tables 𝓤 H 𝓜 𝓡 code.env .Λ) key.name code.function (code.unfolded 𝓤 H 𝓜 𝓡)
     (walk-meets 𝓤 H (𝓖 .A) f.ended stayed W (goes 𝓤 H (𝓖 .A) W (𝓜 .mem) (𝓡 .run)) (f.clauses 𝓤 H (𝓖 .A) (𝓜 .mem) (𝓡 .run)) (WpFn 𝓤 H (𝓣 .C) (𝓣 .Λ) code.function) (WpFn-mono 𝓤 H (W .laws) 𝓣 code.function)
     (walks 𝓤 H (𝓖 .A) W (𝓜 .mem) (𝓡 .run) 𝓣
-    (cited 𝓤 H (NextC 𝓤 H (𝓖 .A) W (𝓜 .mem) (𝓡 .run)) 𝓜 𝓡 code.env next-def.name next-def.routine code.calls-journal·next·next (next-thm.met 𝓤 H 𝓜 𝓖 𝓡))
+    (cited 𝓤 H (NextC 𝓤 H (𝓖 .A) W (𝓜 .mem) (𝓡 .run)) 𝓜 𝓡 code.env next-def.name next-def.routine code.calls-journal·following·next (next-thm.met 𝓤 H 𝓜 𝓖 𝓡))
     (cited 𝓤 H (TurnC 𝓤 H (𝓖 .A) W (𝓜 .mem) (𝓡 .run)) 𝓜 𝓡 code.env turn-def.name turn-def.routine code.calls-journal·turns·turn (turn-thm.met 𝓤 H 𝓜 𝓖 𝓡))
     (cited 𝓤 H (PutC 𝓤 H (𝓖 .A) W (𝓜 .mem) (𝓡 .run)) 𝓜 𝓡 code.env put-def.name put-def.routine code.calls-journal·lines·put-line (put-thm.met 𝓤 H 𝓜 𝓖 𝓡))))

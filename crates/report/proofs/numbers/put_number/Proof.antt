@@ -1,8 +1,8 @@
 use native.Mathlib.Omega.{arith}
 use borrow.Author.Needs.{needs}
 use lib.ListN.{take}
+use Rattle.wire.proofs.Pasting.{put-one}
 use Rattle.report.specs.Numbers.{decimal}
-use Rattle.report.proofs.Pasting.{put-byte}
 use Rattle.report.proofs.numbers.put_number.Statement.{statement}
 use Rattle.report.proofs.numbers.put_number.Tie as tie
 
@@ -12,7 +12,7 @@ returns c =
     let g = c .before .before .before .before .before .before in
     let d = g .digits-of in
     let a = g .before .before .args in
-    let w = put-byte (a .out .now) (y .last .1 .0) (take (d .result .n) (d .result .bytes)) (decimal (a .n)) (a .at) (d .result .n) (a .close)
+    let w = put-one (a .out .now) (y .last .1 .0) (take (d .result .n) (d .result .bytes)) (decimal (a .n)) (a .at) (d .result .n) (a .close)
     (y .ensures) (d .ensures .1 .0) (d .ensures .0 .1) (omega (arith, d .ensures .1 .1, g .before .before .pre)) in
     (w .0, w .1, omega (arith, d .ensures .1 .1))
 

@@ -3,8 +3,8 @@ use Prim.Native.Nat.{_+_, _*_, _-_, _≤_}
 use native.Mathlib.Omega.{arith}
 use mathlib.Core.Path.{_≡_, refl}
 use lib.ListN.{length, drop}
+use Rattle.wire.proofs.Pasting.{Towards, at-first, and-then, at-last}
 use Rattle.report.specs.Numbers.{row}
-use Rattle.report.proofs.Pasting.{Towards, at-first, and-then, at-last}
 use Rattle.report.proofs.Rows.{row-split, none-left}
 use Rattle.report.proofs.numbers.put_row.Statement.{statement}
 use Rattle.report.proofs.numbers.put_row.Tie as tie

@@ -2,8 +2,8 @@ use native.Mathlib.Omega.{arith}
 use mathlib.Core.List.{append-nil}
 use borrow.Author.Needs.{needs}
 use borrow.Author.Tests.{eq-eqb, ne-eqb}
+use Rattle.wire.proofs.Pasting.{put-next}
 use Rattle.report.specs.Parts.{textOf}
-use Rattle.report.proofs.Pasting.{put-next}
 use Rattle.report.proofs.Buffers.{text-stored}
 use Rattle.report.proofs.texts.run_text.Statement.{statement}
 use Rattle.report.proofs.texts.run_text.Tie as tie

@@ -4,8 +4,8 @@ use Prim.Native.Nat.{_-_, _+_}
 use native.Mathlib.Omega.{arith}
 use borrow.Author.Needs.{needs}
 use Rattle.journal.proofs.Running.{no-bytes, no-line, unknown, too-few, goes-on}
-use Rattle.journal.proofs.next.next.Statement.{statement}
-use Rattle.journal.proofs.next.next.Tie as tie
+use Rattle.journal.proofs.following.next.Statement.{statement}
+use Rattle.journal.proofs.following.next.Tie as tie
 
 returns : tie.Need-returns
 returns c = no-bytes _ _ _ (c .if1 .taken)

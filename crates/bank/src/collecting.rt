@@ -1,0 +1,26 @@
+// Collecting a run's payments into a lent list.
+use crate::lines::line_at;
+use crate::lists::Counted;
+use crate::walking::begin;
+use crate::walking::taken;
+use crate::walking::turn_of;
+use journal::Line;
+ghost use mathlib.Core.Path.{_≡_};
+ghost use Rattle.bank.specs.Answers.{collecting};
+
+// The payments above zero of commands and their lines: 18 where the list is too short for them; refused, it keeps every entry.
+pub fn collect(commands: &[u8], lines: &[Line], list: &mut [[u64; 3]]) -> Counted
+    ensures { λ r. ⌜ (r ≡ collecting (now (commands .entry)) (now (lines .entry)) (now (list .entry)) .answer)
+        × (now (list .exit) ≡ collecting (now (commands .entry)) (now (lines .entry)) (now (list .entry)) .list) ⌝ }
+{
+    let mut walk = begin(false);
+    let answer = loop {
+        let turn = turn_of(commands, lines.len(), list.len(), walk);
+        if !turn.goes {
+            break turn.answer;
+        }
+        let line = line_at(lines, turn.walk.line);
+        walk = taken(commands, list, turn, line);
+    };
+    answer
+}
