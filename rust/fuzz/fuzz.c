@@ -1,4 +1,4 @@
-// Random strings, books, signers and lengths into every exported function: fuzz SECONDS [SEED].
+// Random strings, books, signers, payments and lengths into every exported function: fuzz SECONDS [SEED].
 // The archive itself is not instrumented. AddressSanitizer sees its calls of memcpy on buffers of exact size, and pages
 // without access next to a buffer, or without writing where it is only read, stop any other access.
 #define _GNU_SOURCE
@@ -241,6 +241,113 @@ static void signings(void) {
     give_back(lent);
 }
 
+// The bytes of the lent list or buffer before a call of the bank.
+static uint8_t former[8 * FINARUVOM_PAYMENT_SIZE];
+
+static void remember(const struct buffer *lent) {
+    require(lent->n <= sizeof former, "no room to remember");
+    memcpy(former, lent->bytes, lent->n);
+}
+
+// A refused call answers 0 payments; all that is behind the last payment is as it was before.
+static void require_kept(const struct buffer *lent, struct finaruvom_counted counted, size_t width, const char *what) {
+    require(counted.refusal == FINARUVOM_ACCEPTED || counted.payments == 0, what);
+    require(counted.payments <= lent->n / width, what);
+    size_t written = counted.payments * width;
+    require(memcmp(former + written, lent->bytes + written, lent->n - written) == 0, what);
+}
+
+// Short commands one after the other; the last one may be cut, and one in seven is unknown.
+static struct buffer commands(void) {
+    static const uint8_t firsts[] = {0x01, 0x03, 0x04, 0x0a, 0x0a, 0x0a, 0x0b};
+    struct buffer string = lend(below(60));
+    for (size_t at = 0; at < string.n;) {
+        string.bytes[at] = firsts[below(7)];
+        size_t size = finaruvom_size(string.bytes[at]);
+        at += size == 0 ? 1 : size;
+    }
+    return string;
+}
+
+static void call_collect(void) {
+    struct buffer string = commands(), lines = lend(below(8) * sizeof(struct finaruvom_line));
+    struct buffer list = lend(below(9) * sizeof(struct finaruvom_payment));
+    for (size_t i = 0; i < lines.n; i += 8) {
+        memset(lines.bytes + i, 0, 8 * below(2)); // an amount, or steps and refusal
+    }
+    remember(&list);
+    seal(&string);
+    seal(&lines);
+    struct finaruvom_counted counted =
+        finaruvom_collect(string.bytes, string.n, (const struct finaruvom_line *)lines.bytes, lines.n / sizeof(struct finaruvom_line),
+                          (struct finaruvom_payment *)list.bytes, list.n / sizeof(struct finaruvom_payment));
+    require(counted.refusal == FINARUVOM_ACCEPTED || counted.refusal == FINARUVOM_ROOM, "collect: refusal");
+    require_kept(&list, counted, sizeof(struct finaruvom_payment), "collect: payments, or the list behind them");
+    give_back(string);
+    give_back(lines);
+    give_back(list);
+}
+
+// Payments that entries hold, or random bytes, which none holds.
+static void call_write(void) {
+    size_t n = below(6);
+    struct buffer list = lend(n * sizeof(struct finaruvom_payment)), buffer = lend(below(70));
+    struct finaruvom_payment *payments = (struct finaruvom_payment *)list.bytes;
+    bool held = n == 0 || below(4) != 0;
+    for (size_t i = 0; i < n && held; i++) {
+        payments[i].party = below(2) == 0 ? FINARUVOM_TO_CUSTOMER : FINARUVOM_TO_MERCHANT;
+        payments[i].channel = below(FINARUVOM_CHANNELS);
+        payments[i].amount = 1 + number() % FINARUVOM_LARGEST_AMOUNT;
+    }
+    remember(&buffer);
+    seal(&list);
+    struct finaruvom_counted counted = finaruvom_write(payments, n, buffer.bytes, buffer.n);
+    uint64_t refusal = !held ? FINARUVOM_PAYMENT : buffer.n < n * FINARUVOM_ENTRY_SIZE ? FINARUVOM_ROOM : FINARUVOM_ACCEPTED;
+    require(counted.refusal == refusal, "write: refusal");
+    require(counted.payments == (refusal == FINARUVOM_ACCEPTED ? n : 0), "write: payments");
+    require_kept(&buffer, counted, FINARUVOM_ENTRY_SIZE, "write: the buffer behind the entries");
+    give_back(list);
+    give_back(buffer);
+}
+
+// Entries, at times with a bit turned over, or random bytes, of any length.
+static struct buffer entries(void) {
+    struct buffer string = lend(below(6) * FINARUVOM_ENTRY_SIZE + (below(4) == 0 ? below(12) : 0));
+    bool made = below(4) != 0;
+    for (size_t at = 0; at < string.n && made; at++) {
+        size_t place = at % FINARUVOM_ENTRY_SIZE;
+        uint8_t digits = (uint8_t)(below(10) << 4 | (place == FINARUVOM_ENTRY_SIZE - 1 ? 0xc : below(10)));
+        string.bytes[at] = place == 0 ? (uint8_t)(1 + below(2)) : place == 1 ? 0 : place == 2 ? (uint8_t)below(64) : digits;
+    }
+    if (string.n > 0 && below(3) == 0) {
+        string.bytes[below(string.n)] ^= (uint8_t)(1 << below(8));
+    }
+    return string;
+}
+
+// What is accepted is written again as the same bytes.
+static void call_read_payments(void) {
+    struct buffer string = entries(), list = lend(below(9) * sizeof(struct finaruvom_payment));
+    struct finaruvom_payment *payments = (struct finaruvom_payment *)list.bytes;
+    remember(&list);
+    seal(&string);
+    struct finaruvom_counted counted = finaruvom_read_payments(string.bytes, string.n, payments, list.n / sizeof *payments);
+    bool room = string.n % FINARUVOM_ENTRY_SIZE == 0 && string.n / FINARUVOM_ENTRY_SIZE <= list.n / sizeof *payments;
+    bool readable = counted.refusal == FINARUVOM_ACCEPTED || counted.refusal == FINARUVOM_ENTRY;
+    require(room ? readable : counted.refusal == FINARUVOM_ROOM, "read_payments: refusal");
+    require_kept(&list, counted, sizeof *payments, "read_payments: payments, or the list behind them");
+    if (counted.refusal == FINARUVOM_ACCEPTED) {
+        struct buffer again = lend(string.n);
+        struct finaruvom_counted written = finaruvom_write(payments, counted.payments, again.bytes, again.n);
+        require(written.refusal == FINARUVOM_ACCEPTED, "read_payments: not written again");
+        require(written.payments == string.n / FINARUVOM_ENTRY_SIZE, "read_payments: payments written again");
+        require(memcmp(again.bytes, string.bytes, string.n) == 0, "read_payments: written again otherwise");
+        give_back(again);
+    }
+    give_back(string);
+    give_back(list);
+}
+
 // Some calls on one book, which is opened, or random bytes, or opened and then changed in one place.
 static void one_round(void) {
     struct buffer lent = lend(sizeof(struct finaruvom_book));
@@ -258,6 +365,9 @@ static void one_round(void) {
         call_apply(book);
         call_run(book);
         call_read(book);
+        call_collect();
+        call_write();
+        call_read_payments();
     }
     call_open(book);
     call_open_with(book);

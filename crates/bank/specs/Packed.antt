@@ -1,7 +1,7 @@
 -- Document 02, No. 6: entries, each one party byte, n in 2 bytes, and 8 bytes of packed decimal.
 use Prim.Native.Nat.{ℕ, zero, suc, _+_, _*_, _/_, _%_, _^_}
 use mathlib.Core.Bool.{Bool, not, _&&_}
-use mathlib.Core.List.{List, [], _∷_, _++_, flatMap}
+use mathlib.Core.List.{List, [], _∷_, _++_}
 use lib.Dec.{eqb, leb}
 use lib.ListN.{length, take, drop, getD}
 use Rattle.wire.specs.Numbers.{bytes, u16At}
@@ -39,8 +39,9 @@ packed a = joined (digits 15 a ++ (0xC ∷ []))
 unfoldable pub entry : Payment → List ℕ
 entry p = bytes 1 (p .party) ++ bytes 2 (p .channel) ++ packed (p .amount .0)
 
-abbrev pub written : List Payment → List ℕ
-written l = flatMap entry l
+unfoldable pub written : List Payment → List ℕ
+written [] = []
+written (p ∷ l) = entry p ++ written l
 
 -- ---- reading
 

@@ -52,6 +52,12 @@ fn number_of(b: u8) -> u64
     (b / 16 * 10 + b % 16) as u64
 }
 
+fn high_half(b: u8) -> u64
+    ensures { λ r. ⌜ (r ≡ b / 16) × (r ≤ 15) ⌝ }
+{
+    (b / 16) as u64
+}
+
 // What the halves of the last eight bytes spell, but for the last half.
 fn amount_in(e: [u8; 11]) -> u64
     ensures { λ r. ⌜ r ≡ amountIn e ⌝ }
@@ -63,7 +69,7 @@ fn amount_in(e: [u8; 11]) -> u64
         + number_of(e[7]) * 100000
         + number_of(e[8]) * 1000
         + number_of(e[9]) * 10
-        + (e[10] / 16) as u64
+        + high_half(e[10])
 }
 
 // The payment of the entry at a place.

@@ -102,10 +102,11 @@ fn put(list: &mut [[u64; 3]], stores: bool, at: usize, p: Payment) -> usize
     if p.amount.0 == 0 {
         return at;
     }
-    if stores {
-        let entry = listed(p);
-        list[at] = entry;
+    if !stores {
+        return at + 1;
     }
+    let entry = listed(p);
+    list[at] = entry;
     at + 1
 }
 

@@ -1,7 +1,7 @@
 // The run: it writes a line for each command and stops at the first cause.
+use crate::following::next;
 use crate::lines::Line;
 use crate::lines::put_line;
-use crate::following::next;
 use crate::turns::turn;
 use machine::Book;
 ghost use mathlib.Core.Path.{_≡_};

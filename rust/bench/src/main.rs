@@ -2,6 +2,7 @@
 mod checks;
 mod commands;
 mod journals;
+mod payments;
 mod signers;
 mod timing;
 
@@ -16,4 +17,5 @@ fn main() {
     signers::signers();
     commands::commands();
     journals::journals();
+    payments::payments();
 }

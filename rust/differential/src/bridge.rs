@@ -1,4 +1,7 @@
 //! The library's values as the oracle's and back, field by field.
+
+pub mod bank;
+
 use finaruvom::raw::{self, Leaves, Party};
 use finaruvom::{Book, Cents, Payments, Refusal, Seconds, Status, SIGNATURE_SIZE};
 use oracle::Remembered;

@@ -52,6 +52,11 @@ impl Fenced {
         before.iter().chain(after).all(|byte| *byte == GUARD)
     }
 
+    /// Whether the buffer is as it was from this byte on, which it has or ends with.
+    pub fn stays_from(&self, start: usize) -> bool {
+        start <= self.given.len() && self.bytes()[start..] == self.given[start..]
+    }
+
     /// Whether the buffer is as it was too.
     pub fn untouched(&self) -> bool {
         self.intact() && self.bytes() == self.given

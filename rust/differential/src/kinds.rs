@@ -1,5 +1,6 @@
 //! Commands, openings and books that come up by design alone.
 
+pub mod bank;
 pub mod leaves;
 pub mod signers;
 

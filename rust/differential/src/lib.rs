@@ -10,6 +10,7 @@ mod maker;
 mod options;
 mod pair;
 mod parts;
+mod payments;
 pub mod plan;
 pub mod rng;
 mod run;

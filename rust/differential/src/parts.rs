@@ -1,5 +1,6 @@
 //! The kinds of cases. A case depends on its seed alone.
 mod accounts;
+mod bank;
 mod books;
 mod boundary;
 mod faults;
@@ -47,6 +48,7 @@ pub const PARTS: &[Part] = &[
     part("faults", faults::case),
     part("signatures", signatures::case),
     part("signers", signers::case),
+    part("bank", bank::case),
     part("hashes", hashes::case),
     part("boundary", boundary::case),
     part("runs", runs::case),

@@ -1,5 +1,5 @@
 //! What was compared, and which refusals came up.
-use crate::kinds::{leaves, signers, KINDS};
+use crate::kinds::{bank, leaves, signers, KINDS};
 use std::collections::BTreeMap;
 use std::fmt;
 
@@ -112,6 +112,7 @@ impl Tally {
             .into_iter()
             .chain(signers::names())
             .chain(leaves::names())
+            .chain(bank::names())
             .filter(|kind| !self.compared.contains_key(kind))
             .map(|kind| kind.to_string());
         let all = answers.chain(moves).chain(meetings).chain(kinds);

@@ -25,68 +25,21 @@
 //! Every list that was written is read back equal, and no other bytes are read as that list. A call
 //! answers how many payments it collected, wrote or read, and keeps the entries and bytes behind the
 //! last. One that is refused keeps all.
+
+mod payment;
+
 use crate::journal::Line;
-use crate::numbered::numbered;
 use crate::raw;
 use crate::refusal::Refusal;
-use crate::units::Cents;
-use core::mem::offset_of;
 
-numbered! {
-    /// Whom a payment is for.
-    ///
-    /// ```
-    /// use finaruvom::bank::Payee;
-    ///
-    /// assert_eq!(Payee::Customer.number(), 1);
-    /// assert_eq!(Payee::Merchant.to_string(), "the merchant");
-    /// assert_eq!(Payee::try_from(2), Ok(Payee::Merchant));
-    /// ```
-    Payee: u64 {
-        Customer = 1: "the customer",
-        Merchant = 2: "the merchant",
-    }
-}
-
-/// A payment of a list.
-///
-/// The default, nothing to the customer of channel 0, holds a place in a list; no entry is written
-/// of it.
-#[repr(C)]
-#[derive(Clone, Copy, Debug, PartialEq, Eq, Hash)]
-pub struct Payment {
-    /// Whom it is for.
-    pub party: Payee,
-    /// The channel that pays.
-    pub channel: u64,
-    /// What is paid.
-    pub amount: Cents,
-}
-
-impl Default for Payment {
-    fn default() -> Payment {
-        Payment {
-            party: Payee::Customer,
-            channel: 0,
-            amount: Cents(0),
-        }
-    }
-}
-
-const _: () = {
-    assert!(size_of::<Payment>() == size_of::<raw::Payment>());
-    assert!(align_of::<Payment>() == align_of::<raw::Payment>());
-    assert!(offset_of!(Payment, party) == offset_of!(raw::Payment, party));
-    assert!(offset_of!(Payment, channel) == offset_of!(raw::Payment, channel));
-    assert!(offset_of!(Payment, amount) == offset_of!(raw::Payment, amount));
-};
+pub use payment::{Payee, Payment};
 
 /// Collects the payments of a run from its commands and its lines: each above zero, in the order of
 /// the commands, the customer's before the merchant's.
 ///
 /// It goes through commands and lines side by side, whatever refusal a line shows, passes over 01,
 /// and ends where the run would. A list with twice as many entries as there are lines is long
-/// enough. Any amount is collected, also one that [`write`] then refuses.
+/// enough. Any amount is collected, also one that [`write()`] then refuses.
 ///
 /// ```
 /// use finaruvom::bank::{self, Payee, Payment};
@@ -199,7 +152,7 @@ pub fn write(list: &[Payment], buffer: &mut [u8]) -> Result<usize, Refusal> {
 /// # Errors
 ///
 /// [`Refusal::Room`] where the length is no multiple of [`ENTRY_SIZE`](crate::ENTRY_SIZE) or the
-/// list has fewer entries, then [`Refusal::Entry`] where an entry is not as [`write`] writes one.
+/// list has fewer entries, then [`Refusal::Entry`] where an entry is not as [`write()`] writes one.
 pub fn read(bytes: &[u8], list: &mut [Payment]) -> Result<usize, Refusal> {
     // SAFETY: the bytes are readable. The list is lent exclusively and laid out as the boundary's;
     // the library stores no party but 1 and 2, and leaves the other entries as they are.

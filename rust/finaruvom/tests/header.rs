@@ -112,7 +112,7 @@ fn definitions() {
         ("NODES", NODES),
         ("SIGNER_SIZE", SIGNER_SIZE),
         ("ENTRY_SIZE", ENTRY_SIZE),
-        ("LARGEST_AMOUNT", LARGEST_AMOUNT.0 as usize),
+        ("LARGEST_AMOUNT", usize::try_from(LARGEST_AMOUNT.0).unwrap()),
         ("SHORTEST_DELAY", SHORTEST_DELAY as usize),
         ("LONGEST_DELAY", LONGEST_DELAY as usize),
         ("PLAIN_DELAY", PLAIN_DELAY as usize),
@@ -151,11 +151,11 @@ fn causes() {
 
 #[test]
 fn payees() {
-    let listed = listed("payee").into_iter();
-    let names = listed.map(|(name, number)| (name.replace("To", ""), number));
-    let named: Numbers = names.collect();
-    assert_eq!(named.len(), 2);
-    assert_eq!(variants(Payee::number), named);
+    let listed = listed("payee");
+    assert_eq!(listed.len(), 2);
+    let payees = variants(Payee::number).into_iter();
+    let payees = payees.map(|(name, number)| (format!("To{name}"), number));
+    assert_eq!(payees.collect::<Numbers>(), listed);
 }
 
 #[test]

@@ -1,5 +1,6 @@
 //! Random bytes into every exported function, on memory between guard bytes.
 
+mod bank;
 mod journal;
 mod signer;
 
@@ -24,6 +25,9 @@ const CALLS: &[Call] = &[
     journal::run,
     signer::make_key,
     signer::sign,
+    bank::collect,
+    bank::write,
+    bank::read_payments,
 ];
 
 /// Calls on one book.

@@ -9,7 +9,7 @@ use finaruvom::Cents;
 mod calls;
 
 /// What stands in a lent list before a call.
-const FORMER: [u64; 3] = [u64::MAX, 0xeeee_eeee, 0];
+const FORMER: [u64; 3] = [u64::MAX, 0xeeee_eeee, 0xee];
 
 fn payment([party, channel, amount]: [u64; 3]) -> Payment {
     Payment {
@@ -81,4 +81,18 @@ fn hold(given: Given) {
 #[test]
 fn given_calls() {
     given().into_iter().for_each(hold);
+}
+
+/// Parties that only the header's list can hold.
+#[test]
+fn other_parties() {
+    for party in [0, 3, 0x101, 0x102, (1 << 32) + 1, u64::MAX] {
+        let list = [[1, 5, 9], [party, 5, 9]].map(payment);
+        for room in [0, 21, 22, 23] {
+            let mut buffer = vec![0xee; room];
+            let counted = write(&list, &mut buffer);
+            assert_eq!((counted.refusal, counted.payments), (17, 0), "{party}");
+            assert_eq!(buffer, vec![0xee; room]);
+        }
+    }
 }

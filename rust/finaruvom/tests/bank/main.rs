@@ -11,7 +11,7 @@ use finaruvom::Cents;
 const FORMER: Payment = Payment {
     party: Payee::Merchant,
     channel: u64::MAX,
-    amount: Cents(0),
+    amount: Cents(0xee),
 };
 
 fn payment(party: Payee, channel: u64, cents: u64) -> Payment {

@@ -5,7 +5,7 @@ use crate::command::length;
 use crate::machine::Answer;
 
 /// What stands in a lent list before a call.
-const FORMER: Payment = payment([u64::MAX, 0xeeee_eeee, 0]);
+const FORMER: Payment = payment([u64::MAX, 0xeeee_eeee, 0xee]);
 
 const fn payment([party, channel, amount]: [u64; 3]) -> Payment {
     Payment {
