@@ -9,10 +9,11 @@ use lib.ListN.{length}
 use Rattle.wire.specs.Parts.{pasted}
 use Rattle.machine.specs.Book.{all}
 use Rattle.machine.specs.Checks.{Check, test, ask}
+use Rattle.journal.specs.declared.lines.Line.{Line}
 use Rattle.bank.specs.declared.lists.Payment.{Payment}
-use Rattle.bank.specs.Payments.{listed}
+use Rattle.bank.specs.Payments.{listed, collected}
 use Rattle.bank.specs.Packed.{written, entriesOf, paymentIn, good}
-use Rattle.bank.specs.Answers.{accepted, refused, refusalOf, writable, Written, writing, Filled, filled, reading}
+use Rattle.bank.specs.Answers.{accepted, refused, refusalOf, writable, Written, writing, Filled, filled, reading, collecting}
 
 -- Writing.
 module _ (l : List Payment) (b : List ℕ) where
@@ -58,3 +59,14 @@ module _ (k n room : ℕ) where
       go : (x : Bool) → (not x || ltb room n) ≡ false → ((x && leb n room) ≡ true) × (n ≤ room)
       go true h = let l = ltb-false room n h in (le-leb n room l, l)
       go false h = absurd (true≢false h)
+
+-- Collecting.
+module _ (cs : List ℕ) (ls : List Line) (list : List (List ℕ)) where
+  pub collecting-18 : leb (length (collected cs ls)) (length list) ≡ false → collecting cs ls list ≡ record { answer = refused 18; list = list }
+  unfolding filled refusalOf ask
+  collecting-18 e = rw e
+
+  pub collecting-0 : leb (length (collected cs ls)) (length list) ≡ true
+      → collecting cs ls list ≡ record { answer = accepted (length (collected cs ls)); list = pasted list 0 (map listed (collected cs ls)) }
+  unfolding filled refusalOf ask
+  collecting-0 e = rw e

@@ -1,5 +1,7 @@
--- Entries byte by byte; lists one by one; what the calls answer; turns of collecting.
+-- Entries byte by byte; lists one by one; what the calls answer; turns of collecting; commands and lines side by side; collecting before each turn.
 pub mod EntryBytes
 pub mod Listing
 pub mod Answering
 pub mod Turns
+pub mod Commands
+pub mod CollectState

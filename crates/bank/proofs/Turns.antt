@@ -11,6 +11,7 @@ use lib.ListN.{length, drop, getD, set, length-map, length-append}
 use Rattle.wire.specs.Parts.{pasted}
 use Rattle.wire.specs.Numbers.{u16At}
 use Rattle.wire.proofs.Pasting.{pasted-none, length-pasted, pasted-more}
+use Rattle.machine.specs.Format.{opcode, place}
 use Rattle.journal.specs.Runs.{nextOf, aheadOf}
 use Rattle.journal.specs.declared.following.Ahead.{Ahead}
 use Rattle.journal.specs.declared.lines.Line.{Line}
@@ -112,6 +113,20 @@ one-at-most p = go (eqb (p .amount .0) 0)
     go : (x : Bool) → length (cond x [] (p ∷ [])) ≤ 1
     go true = omega arith
     go false = omega arith
+
+pub two-at-most : (s : List ℕ) (l : Line) → length (paidIn s l) ≤ 2
+unfolding paidIn
+two-at-most s l = go (eqb (opcode s) 1)
+  where
+    a : List Payment
+    a = above (payment 1 (place s) (l .answer .customer .0))
+
+    b : List Payment
+    b = above (payment 2 (place s) (l .answer .merchant .0))
+
+    go : (x : Bool) → length (cond x [] (a ++ b)) ≤ 2
+    go true = omega arith
+    go false = omega (arith, length-append a b, one-at-most (payment 1 (place s) (l .answer .customer .0)), one-at-most (payment 2 (place s) (l .answer .merchant .0)))
 
 module _ (s : List ℕ) (l : Line) (n : ℕ) (h : n ≡ u16At s 1) (e : getD s 0 0 ≡ 1 → ⊥) where
   abbrev first : Payment

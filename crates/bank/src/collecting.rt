@@ -1,7 +1,7 @@
 // Collecting a run's payments into a lent list.
 use crate::lines::line_at;
 use crate::lists::Counted;
-use crate::walking::begin;
+use crate::walking::Walk;
 use crate::walking::taken;
 use crate::walking::turn_of;
 use journal::Line;
@@ -13,14 +13,19 @@ pub fn collect(commands: &[u8], lines: &[Line], list: &mut [[u64; 3]]) -> Counte
     ensures { λ r. ⌜ (r ≡ collecting (now (commands .entry)) (now (lines .entry)) (now (list .entry)) .answer)
         × (now (list .exit) ≡ collecting (now (commands .entry)) (now (lines .entry)) (now (list .entry)) .list) ⌝ }
 {
-    let mut walk = begin(false);
-    let answer = loop {
+    let mut walk = Walk {
+        stores: false,
+        at: 0,
+        line: 0,
+        payments: 0,
+    };
+    loop {
         let turn = turn_of(commands, lines.len(), list.len(), walk);
         if !turn.goes {
             break turn.answer;
         }
         let line = line_at(lines, turn.walk.line);
-        walk = taken(commands, list, turn, line);
-    };
-    answer
+        let next = taken(commands, list, turn, line);
+        walk = next;
+    }
 }

@@ -31,12 +31,12 @@ pub struct Turn {
     pub answer: Counted,
 }
 
-// At the start.
-pub fn begin(stores: bool) -> Walk
-    ensures { λ r. ⌜ r ≡ begun stores ⌝ }
+// At the start, to store.
+fn begin() -> Walk
+    ensures { λ r. ⌜ r ≡ begun true ⌝ }
 {
     Walk {
-        stores,
+        stores: true,
         at: 0,
         line: 0,
         payments: 0,
@@ -59,7 +59,7 @@ fn ends(answer: Counted) -> Turn
 {
     Turn {
         goes: false,
-        walk: begin(true),
+        walk: begin(),
         end: 0,
         answer,
     }
@@ -77,7 +77,7 @@ fn at_end(commands: &[u8], lines: usize, room: usize, walk: Walk) -> Turn
     }
     let ahead = next(commands, 0, 0, lines);
     if ahead.goes {
-        return goes_on(begin(true), ahead.end);
+        return goes_on(begin(), ahead.end);
     }
     ends(accepted(0))
 }
