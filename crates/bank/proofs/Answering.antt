@@ -13,36 +13,36 @@ use Rattle.journal.specs.declared.lines.Line.{Line}
 use Rattle.bank.specs.declared.lists.Payment.{Payment}
 use Rattle.bank.specs.Payments.{listed, collected}
 use Rattle.bank.specs.Packed.{written, entriesOf, paymentIn, good}
-use Rattle.bank.specs.Answers.{accepted, refused, refusalOf, writable, Written, writing, Filled, filled, reading, collecting}
+use Rattle.bank.specs.Answers.{accepted, refused, refusalOf, writable, Written, writeOf, Filled, filled, readOf, collectOf}
 
 -- Writing.
 module _ (l : List Payment) (b : List ℕ) where
-  pub writing-17 : all writable l ≡ false → writing l b ≡ record { answer = refused 17; buffer = b }
-  unfolding writing refusalOf ask
-  writing-17 e = rw e
+  pub write-17 : all writable l ≡ false → writeOf l b ≡ record { answer = refused 17; buffer = b }
+  unfolding writeOf refusalOf ask
+  write-17 e = rw e
 
-  pub writing-18 : all writable l ≡ true → leb (11 * length l) (length b) ≡ false → writing l b ≡ record { answer = refused 18; buffer = b }
-  unfolding writing refusalOf ask
-  writing-18 e h = rw (e, h)
+  pub write-18 : all writable l ≡ true → leb (11 * length l) (length b) ≡ false → writeOf l b ≡ record { answer = refused 18; buffer = b }
+  unfolding writeOf refusalOf ask
+  write-18 e h = rw (e, h)
 
-  pub writing-0 : all writable l ≡ true → leb (11 * length l) (length b) ≡ true → writing l b ≡ record { answer = accepted (length l); buffer = pasted b 0 (written l) }
-  unfolding writing refusalOf ask
-  writing-0 e h = rw (e, h)
+  pub write-0 : all writable l ≡ true → leb (11 * length l) (length b) ≡ true → writeOf l b ≡ record { answer = accepted (length l); buffer = pasted b 0 (written l) }
+  unfolding writeOf refusalOf ask
+  write-0 e h = rw (e, h)
 
 -- Reading.
 module _ (x : List ℕ) (list : List (List ℕ)) where
-  pub reading-18 : (eqb (length x % 11) 0 && leb (length x / 11) (length list)) ≡ false → reading x list ≡ record { answer = refused 18; list = list }
+  pub read-18 : (eqb (length x % 11) 0 && leb (length x / 11) (length list)) ≡ false → readOf x list ≡ record { answer = refused 18; list = list }
   unfolding filled refusalOf ask
-  reading-18 e = rw e
+  read-18 e = rw e
 
-  pub reading-19 : (eqb (length x % 11) 0 && leb (length x / 11) (length list)) ≡ true → all good (entriesOf x) ≡ false → reading x list ≡ record { answer = refused 19; list = list }
+  pub read-19 : (eqb (length x % 11) 0 && leb (length x / 11) (length list)) ≡ true → all good (entriesOf x) ≡ false → readOf x list ≡ record { answer = refused 19; list = list }
   unfolding filled refusalOf ask
-  reading-19 e h = rw (e, h)
+  read-19 e h = rw (e, h)
 
-  pub reading-0 : (eqb (length x % 11) 0 && leb (length x / 11) (length list)) ≡ true → all good (entriesOf x) ≡ true
-      → reading x list ≡ record { answer = accepted (length (map paymentIn (entriesOf x))); list = pasted list 0 (map listed (map paymentIn (entriesOf x))) }
+  pub read-0 : (eqb (length x % 11) 0 && leb (length x / 11) (length list)) ≡ true → all good (entriesOf x) ≡ true
+      → readOf x list ≡ record { answer = accepted (length (map paymentIn (entriesOf x))); list = pasted list 0 (map listed (map paymentIn (entriesOf x))) }
   unfolding filled refusalOf ask
-  reading-0 e h = rw (e, h)
+  read-0 e h = rw (e, h)
 
 -- The test that the code makes of a length and of the room for what is read.
 module _ (k n room : ℕ) where
@@ -62,11 +62,11 @@ module _ (k n room : ℕ) where
 
 -- Collecting.
 module _ (cs : List ℕ) (ls : List Line) (list : List (List ℕ)) where
-  pub collecting-18 : leb (length (collected cs ls)) (length list) ≡ false → collecting cs ls list ≡ record { answer = refused 18; list = list }
+  pub collect-18 : leb (length (collected cs ls)) (length list) ≡ false → collectOf cs ls list ≡ record { answer = refused 18; list = list }
   unfolding filled refusalOf ask
-  collecting-18 e = rw e
+  collect-18 e = rw e
 
-  pub collecting-0 : leb (length (collected cs ls)) (length list) ≡ true
-      → collecting cs ls list ≡ record { answer = accepted (length (collected cs ls)); list = pasted list 0 (map listed (collected cs ls)) }
+  pub collect-0 : leb (length (collected cs ls)) (length list) ≡ true
+      → collectOf cs ls list ≡ record { answer = accepted (length (collected cs ls)); list = pasted list 0 (map listed (collected cs ls)) }
   unfolding filled refusalOf ask
-  collecting-0 e = rw e
+  collect-0 e = rw e

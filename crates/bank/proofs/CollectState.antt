@@ -19,9 +19,9 @@ use Rattle.bank.specs.declared.lists.Payment.{Payment}
 use Rattle.bank.specs.declared.walking.Walk.{Walk}
 use Rattle.bank.specs.declared.walking.Turn.{Turn}
 use Rattle.bank.specs.Payments.{paidIn, collected}
-use Rattle.bank.specs.Answers.{accepted, refused, collecting}
+use Rattle.bank.specs.Answers.{accepted, refused, collectOf}
 use Rattle.bank.specs.Walks.{noLine, begun, going, ended, atEnd, turnOf, commandOf, walked, storedBy}
-use Rattle.bank.proofs.Answering.{collecting-0, collecting-18}
+use Rattle.bank.proofs.Answering.{collect-0, collect-18}
 use Rattle.bank.proofs.Turns.{stored-none, stored-length, stored-more, counted-only, two-at-most}
 use Rattle.bank.proofs.Commands.{goes-whole, known, rest-stop, line-left, rest-go}
 
@@ -88,20 +88,20 @@ module _ (cs : List ℕ) (ls : List Line) (l₀ : List (List ℕ)) where
 
     -- Where it ends, the answer and the list are those of collecting.
     abbrev Collects : Counted → Type 0
-    Collects a = (a ≡ (collecting cs ls l₀) .answer) × (list ≡ (collecting cs ls l₀) .list)
+    Collects a = (a ≡ (collectOf cs ls l₀) .answer) × (list ≡ (collectOf cs ls l₀) .list)
 
     pub ends : (t : Turn) → TurnIs w t → t .goes ≡ false → Collects (t .answer)
     unfolding storedBy
     ends t e g = go (kind w t e)
       where
         taken : leb (length every) (length l₀) ≡ true → (a : Counted) → a ≡ accepted (length every) → list ≡ storedBy true l₀ 0 every → Collects a
-        taken h a q r = rw (collecting-0 cs ls l₀ h) (q, r)
+        taken h a q r = rw (collect-0 cs ls l₀ h) (q, r)
 
         go : Kind w t → Collects (t .answer)
         go (on a q) = absurd (true≢false (ap (λ (x : Turn). x .goes) (sym q) ∙ g))
         go (stored a s q) =
             taken (le-leb (length every) (length l₀) (p .storing s .0)) (t .answer) (ap (λ (x : Turn). x .answer) q ∙ ap accepted (all-counted a)) (all-stored a s)
-        go (short a s h q) = rw (collecting-18 cs ls l₀ (rw (all-counted a) at h)) (ap (λ (x : Turn). x .answer) q, p .counting s)
+        go (short a s h q) = rw (collect-18 cs ls l₀ (rw (all-counted a) at h)) (ap (λ (x : Turn). x .answer) q, p .counting s)
         go (again a s h n q) = absurd (true≢false (ap (λ (x : Turn). x .goes) (sym q) ∙ g))
         go (none a s h n q) =
             let nothing : every ≡ [] = rest-stop cs ls 0 (rw sub-zero n) in

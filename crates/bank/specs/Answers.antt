@@ -44,8 +44,8 @@ pub record Written : Type 0 where
   pub answer : Counted
   pub buffer : List ℕ
 
-unfoldable pub writing : List Payment → List ℕ → Written
-writing l buffer =
+unfoldable pub writeOf : List Payment → List ℕ → Written
+writeOf l buffer =
     let r = refusalOf (writingChecks l (length buffer)) in
     record { answer = counted r (length l); buffer = cond (eqb r 0) (pasted buffer 0 (written l)) buffer }
 
@@ -67,8 +67,8 @@ readingChecks x room =
     ∷ test 19 (all good (entriesOf x))
     ∷ []
 
-abbrev pub reading : List ℕ → List (List ℕ) → Filled
-reading x list = filled (readingChecks x (length list)) (map paymentIn (entriesOf x)) list
+abbrev pub readOf : List ℕ → List (List ℕ) → Filled
+readOf x list = filled (readingChecks x (length list)) (map paymentIn (entriesOf x)) list
 
-abbrev pub collecting : List ℕ → List Line → List (List ℕ) → Filled
-collecting cs ls list = let ps = collected cs ls in filled (test 18 (leb (length ps) (length list)) ∷ []) ps list
+abbrev pub collectOf : List ℕ → List Line → List (List ℕ) → Filled
+collectOf cs ls list = let ps = collected cs ls in filled (test 18 (leb (length ps) (length list)) ∷ []) ps list

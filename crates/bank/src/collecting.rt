@@ -6,12 +6,12 @@ use crate::walking::taken;
 use crate::walking::turn_of;
 use journal::Line;
 ghost use mathlib.Core.Path.{_≡_};
-ghost use Rattle.bank.specs.Answers.{collecting};
+ghost use Rattle.bank.specs.Answers.{collectOf};
 
 // The payments above zero of commands and their lines: 18 where the list is too short for them; refused, it keeps every entry.
 pub fn collect(commands: &[u8], lines: &[Line], list: &mut [[u64; 3]]) -> Counted
-    ensures { λ r. ⌜ (r ≡ collecting (now (commands .entry)) (now (lines .entry)) (now (list .entry)) .answer)
-        × (now (list .exit) ≡ collecting (now (commands .entry)) (now (lines .entry)) (now (list .entry)) .list) ⌝ }
+    ensures { λ r. ⌜ (r ≡ collectOf (now (commands .entry)) (now (lines .entry)) (now (list .entry)) .answer)
+        × (now (list .exit) ≡ collectOf (now (commands .entry)) (now (lines .entry)) (now (list .entry)) .list) ⌝ }
 {
     let mut walk = Walk {
         stores: false,

@@ -13,7 +13,7 @@ ghost use Rattle.wire.specs.Parts.{pasted};
 ghost use Rattle.machine.specs.Book.{all};
 ghost use Rattle.bank.specs.Payments.{listed};
 ghost use Rattle.bank.specs.Packed.{entriesOf, good, paymentIn};
-ghost use Rattle.bank.specs.Answers.{reading};
+ghost use Rattle.bank.specs.Answers.{readOf};
 
 fn all_good(bytes: &[u8]) -> bool
     ensures { λ r. ⌜ r ≡ all good (entriesOf (now (bytes .entry))) ⌝ }
@@ -44,8 +44,8 @@ fn put_payments(bytes: &[u8], list: &mut [[u64; 3]])
 // The payments of the entries: 18 for a length that is no multiple of 11 or a list that is too short, then 19 for an entry that is not as one is written;
 // refused, the list keeps every entry.
 pub fn read(bytes: &[u8], list: &mut [[u64; 3]]) -> Counted
-    ensures { λ r. ⌜ (r ≡ reading (now (bytes .entry)) (now (list .entry)) .answer)
-        × (now (list .exit) ≡ reading (now (bytes .entry)) (now (list .entry)) .list) ⌝ }
+    ensures { λ r. ⌜ (r ≡ readOf (now (bytes .entry)) (now (list .entry)) .answer)
+        × (now (list .exit) ≡ readOf (now (bytes .entry)) (now (list .entry)) .list) ⌝ }
 {
     let n = bytes.len() / 11;
     if (bytes.len() % 11 != 0) | (list.len() < n) {

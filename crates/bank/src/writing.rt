@@ -14,7 +14,7 @@ ghost use Rattle.wire.specs.Parts.{pasted};
 ghost use Rattle.machine.specs.Book.{all};
 ghost use Rattle.bank.specs.Payments.{paymentOf};
 ghost use Rattle.bank.specs.Packed.{written};
-ghost use Rattle.bank.specs.Answers.{writable, writing};
+ghost use Rattle.bank.specs.Answers.{writable, writeOf};
 
 // Whether an entry can hold the payment.
 fn writable(p: Payment) -> bool
@@ -49,8 +49,8 @@ fn put_entries(list: &[[u64; 3]], buffer: &mut [u8])
 
 // Every payment of the list as an entry: 17 where one cannot be written, then 18 where the buffer is too short; refused, the buffer keeps every byte.
 pub fn write(list: &[[u64; 3]], buffer: &mut [u8]) -> Counted
-    ensures { λ r. ⌜ (r ≡ writing (map paymentOf (now (list .entry))) (now (buffer .entry)) .answer)
-        × (now (buffer .exit) ≡ writing (map paymentOf (now (list .entry))) (now (buffer .entry)) .buffer) ⌝ }
+    ensures { λ r. ⌜ (r ≡ writeOf (map paymentOf (now (list .entry))) (now (buffer .entry)) .answer)
+        × (now (buffer .exit) ≡ writeOf (map paymentOf (now (list .entry))) (now (buffer .entry)) .buffer) ⌝ }
 {
     if !all_writable(list) {
         return refused(17);

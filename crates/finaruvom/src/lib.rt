@@ -4,12 +4,14 @@ use arbiter::Book;
 use arbiter::Found;
 use arbiter::Reading;
 use arbiter::Settings;
+use bank::Counted;
 use journal::Line;
 use journal::Ran;
 use machine::LAYOUT;
 use signer::Signature;
 use signer::Signer;
 ghost use mathlib.Core.Path.{_≡_};
+ghost use mathlib.Core.List.{map};
 ghost use Rattle.sha256.specs.Answer.{hashAnswer};
 ghost use Rattle.lms.specs.Check.{checkOf};
 ghost use Rattle.machine.specs.Format.{size};
@@ -19,6 +21,8 @@ ghost use Rattle.machine.specs.Due.{due};
 ghost use Rattle.machine.specs.Real.{realStep};
 ghost use Rattle.journal.specs.Runs.{runOf, ranOf};
 ghost use Rattle.signer.specs.Answers.{makeOf, signOf};
+ghost use Rattle.bank.specs.Payments.{paymentOf};
+ghost use Rattle.bank.specs.Answers.{writeOf, readOf, collectOf};
 ghost use Rattle.finaruvom.specs.Fields.{fieldsOf};
 ghost use Rattle.finaruvom.specs.Release.{released};
 
@@ -37,7 +41,7 @@ pub extern "C" fn finaruvom_version() -> Version
 {
     Version {
         major: 0,
-        minor: 14,
+        minor: 15,
         patch: 0,
         layout: LAYOUT,
     }
@@ -208,4 +212,32 @@ pub extern "C" fn finaruvom_sign(signer: &mut Signer, nonce: &[u8], message: &[u
     let signed = signer::signed(lent, nonce, message);
     *signer = signed.signer;
     signed.signature
+}
+
+// Collects the payments above zero of commands and their lines: 18 where the list is too short for them; refused, it keeps every entry.
+#[no_mangle]
+pub extern "C" fn finaruvom_collect(commands: &[u8], lines: &[Line], list: &mut [[u64; 3]]) -> Counted
+    ensures { λ r. ⌜ (r ≡ collectOf (now (commands .entry)) (now (lines .entry)) (now (list .entry)) .answer)
+        × (now (list .exit) ≡ collectOf (now (commands .entry)) (now (lines .entry)) (now (list .entry)) .list) ⌝ }
+{
+    bank::collect(commands, lines, list)
+}
+
+// Writes every payment of the list as an entry: 17 where one cannot be written, then 18 where the buffer is too short; refused, it keeps every byte.
+#[no_mangle]
+pub extern "C" fn finaruvom_write(list: &[[u64; 3]], buffer: &mut [u8]) -> Counted
+    ensures { λ r. ⌜ (r ≡ writeOf (map paymentOf (now (list .entry))) (now (buffer .entry)) .answer)
+        × (now (buffer .exit) ≡ writeOf (map paymentOf (now (list .entry))) (now (buffer .entry)) .buffer) ⌝ }
+{
+    bank::write(list, buffer)
+}
+
+// Reads the payments of entries: 18 for a length that is no multiple of 11 or a list that is too short, then 19 for an entry that is not as one is written;
+// refused, the list keeps every entry.
+#[no_mangle]
+pub extern "C" fn finaruvom_read_payments(bytes: &[u8], list: &mut [[u64; 3]]) -> Counted
+    ensures { λ r. ⌜ (r ≡ readOf (now (bytes .entry)) (now (list .entry)) .answer)
+        × (now (list .exit) ≡ readOf (now (bytes .entry)) (now (list .entry)) .list) ⌝ }
+{
+    bank::read(bytes, list)
 }

@@ -6,7 +6,7 @@ use borrow.Author.Tests.{not-true, not-false}
 use lib.ListN.{length, length-map}
 use Rattle.bank.specs.Packed.{entriesOf, paymentIn}
 use Rattle.bank.proofs.Listing.{parted-length}
-use Rattle.bank.proofs.Answering.{reading-18, reading-19, reading-0, no-room, has-room}
+use Rattle.bank.proofs.Answering.{read-18, read-19, read-0, no-room, has-room}
 use Rattle.bank.proofs.reading.read.Statement.{statement}
 use Rattle.bank.proofs.reading.read.Tie as tie
 
@@ -14,13 +14,13 @@ returns : tie.Need-returns
 returns c =
     let a = c .before .before .before .args in
     let x = a .bytes .now in
-    rw (reading-18 x (a .list .now) (no-room (length x % 11) (length x / 11) (length (a .list .now)) (c .before .if1 .taken))) (c .refused .ensures, refl)
+    rw (read-18 x (a .list .now) (no-room (length x % 11) (length x / 11) (length (a .list .now)) (c .before .if1 .taken))) (c .refused .ensures, refl)
 
 returns-2 : tie.Need-returns-2
 returns-2 c =
     let a = c .before .before .before .before .before .args in
     let x = a .bytes .now in
-    rw (reading-19 x (a .list .now) ((has-room (length x % 11) (length x / 11) (length (a .list .now)) (c .before .before .before .if1 .left)) .0) (sym (c .before .before .all-good .ensures) ∙ not-true _ (c .before .if2 .taken)))
+    rw (read-19 x (a .list .now) ((has-room (length x % 11) (length x / 11) (length (a .list .now)) (c .before .before .before .if1 .left)) .0) (sym (c .before .before .all-good .ensures) ∙ not-true _ (c .before .if2 .taken)))
     (c .refused2 .ensures, refl)
 
 put-payments-requires : tie.Need-put-payments-requires
@@ -34,7 +34,7 @@ returns-3 c =
     let a = c .before .before .before .before .before .before .before .before .args in
     let x = a .bytes .now in
     let n = length-map (entriesOf x) paymentIn ∙ parted-length (length x / 11) x in
-    rw (reading-0 x (a .list .now) ((has-room (length x % 11) (length x / 11) (length (a .list .now)) (c .before .before .before .before .before .before .if1 .left)) .0)
+    rw (read-0 x (a .list .now) ((has-room (length x % 11) (length x / 11) (length (a .list .now)) (c .before .before .before .before .before .before .if1 .left)) .0)
     (sym (c .before .before .before .before .before .all-good .ensures) ∙ not-false _ (c .before .before .before .before .if2 .left)), n)
     (c .accepted .ensures, c .before .before .put-payments .ensures)
 

@@ -6,14 +6,14 @@ use borrow.Author.Needs.{needs}
 use borrow.Author.Tests.{not-true, not-false, le-leb, lt-leb}
 use lib.ListN.{length, length-map}
 use Rattle.bank.specs.Payments.{paymentOf}
-use Rattle.bank.proofs.Answering.{writing-17, writing-18, writing-0}
+use Rattle.bank.proofs.Answering.{write-17, write-18, write-0}
 use Rattle.bank.proofs.writing.write.Statement.{statement}
 use Rattle.bank.proofs.writing.write.Tie as tie
 
 returns : tie.Need-returns
 returns c =
     let a = c .before .before .before .before .args in
-    let w = writing-17 (map paymentOf (a .list .now)) (a .buffer .now) (sym (c .before .before .all-writable .ensures) ∙ not-true _ (c .before .if1 .taken)) in
+    let w = write-17 (map paymentOf (a .list .now)) (a .buffer .now) (sym (c .before .before .all-writable .ensures) ∙ not-true _ (c .before .if1 .taken)) in
     rw w (c .refused .ensures, refl)
 
 returns-2 : tie.Need-returns-2
@@ -21,7 +21,7 @@ returns-2 c =
     let a = c .before .before .before .before .before .args in
     let l = map paymentOf (a .list .now) in
     let n = length-map (a .list .now) paymentOf in
-    let w = writing-18 l (a .buffer .now) (sym (c .before .before .before .all-writable .ensures) ∙ not-false _ (c .before .before .if1 .left)) (lt-leb (11 * length l) (length (a .buffer .now)) (omega (arith, n))) in
+    let w = write-18 l (a .buffer .now) (sym (c .before .before .before .all-writable .ensures) ∙ not-false _ (c .before .before .if1 .left)) (lt-leb (11 * length l) (length (a .buffer .now)) (omega (arith, n))) in
     rw w (c .refused2 .ensures, refl)
 
 returns-3 : tie.Need-returns-3
@@ -29,7 +29,7 @@ returns-3 c =
     let a = c .before .before .before .before .before .before .before .before .before .args in
     let l = map paymentOf (a .list .now) in
     let n = length-map (a .list .now) paymentOf in
-    let w = writing-0 l (a .buffer .now) (sym (c .before .before .before .before .before .before .before .all-writable .ensures) ∙ not-false _ (c .before .before .before .before .before .before .if1 .left)) (le-leb (11 * length l) (length (a .buffer .now)) (omega (arith, n))) in
+    let w = write-0 l (a .buffer .now) (sym (c .before .before .before .before .before .before .before .all-writable .ensures) ∙ not-false _ (c .before .before .before .before .before .before .if1 .left)) (le-leb (11 * length l) (length (a .buffer .now)) (omega (arith, n))) in
     rw (w, n) (c .accepted .ensures, c .before .before .before .put-entries .ensures)
 
 pub write-spec : {M : Type 1} → statement M
