@@ -3,3 +3,4 @@ pub mod Payments
 pub mod Packed
 pub mod Answers
 pub mod Walks
+pub mod BankLines

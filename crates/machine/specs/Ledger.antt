@@ -72,9 +72,9 @@ entryAt h i = getD h i (record { string = []; answer = noAnswer })
 
 -- ---- words about the strings of one channel
 
-unfoldable pub sum : (Event → ℕ) → List Event → ℕ
+unfoldable pub sum : {A : Type 0} → (A → ℕ) → List A → ℕ
 sum f [] = 0
-sum f (e ∷ l) = f e + sum f l
+sum f (x ∷ l) = f x + sum f l
 
 abbrev pub deposit : Event → ℕ
 deposit e = cond (eqb (opcode (e .string)) 3 || eqb (opcode (e .string)) 4) (amount (e .string)) 0

@@ -28,15 +28,17 @@ pub struct Seen {
 type Room = (&'static str, Call, u8, fn(&Seen) -> bool);
 
 /// Calls by their answer and their room.
-const ROOMS: [Room; 17] = [
+const ROOMS: [Room; 20] = [
     ("collected nothing", Collect, 0, Seen::needs_none),
     ("collected into an exact list", Collect, 0, Seen::exact),
     ("collected into a longer list", Collect, 0, Seen::longer),
+    ("collected more than 255", Collect, 0, Seen::long),
     ("not collected, one short", Collect, 18, Seen::one_short),
     ("not collected into no list", Collect, 18, Seen::has_none),
     ("written nothing", Write, 0, Seen::needs_none),
     ("written into an exact buffer", Write, 0, Seen::exact),
     ("written into a longer buffer", Write, 0, Seen::longer),
+    ("written more than 65,535 bytes", Write, 0, Seen::very_long),
     ("not written with 17, with room", Write, 17, Seen::roomy),
     ("not written with 17, too short", Write, 17, Seen::short),
     ("not written, one byte short", Write, 18, Seen::one_short),
@@ -44,6 +46,7 @@ const ROOMS: [Room; 17] = [
     ("read nothing", Read, 0, Seen::needs_none),
     ("read into an exact list", Read, 0, Seen::exact),
     ("read into a longer list", Read, 0, Seen::longer),
+    ("read more than 255", Read, 0, Seen::long),
     ("not read, one short", Read, 18, Seen::one_short),
     ("not read into no list", Read, 18, Seen::has_none),
 ];
@@ -77,6 +80,14 @@ impl Seen {
 
     fn longer(&self) -> bool {
         self.needs < self.has && self.needs > 0
+    }
+
+    fn long(&self) -> bool {
+        self.needs > 255
+    }
+
+    fn very_long(&self) -> bool {
+        self.needs > 65_535
     }
 
     fn roomy(&self) -> bool {

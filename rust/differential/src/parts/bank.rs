@@ -11,13 +11,14 @@ use crate::pair::Outcome;
 use crate::rng::Rng;
 use oracle::bank::Counted;
 
-/// Each call several times, then runs.
+/// Each call several times, a long list, whose entries have more than 65,535 bytes, and runs.
 pub fn case(rng: &mut Rng, world: &mut World) -> Outcome {
     for _ in 0..8 {
         collecting::case(rng, &mut world.tally)?;
         writing::case(rng, &mut world.tally)?;
         reading::case(rng, &mut world.tally)?;
     }
+    writing::held(rng, 6_000, &mut world.tally)?;
     runs::case(rng, world)
 }
 

@@ -92,6 +92,8 @@ fn what_was_written_is_read() {
             [Payee::Merchant, Payee::Customer].map(|party| payment(party, n, cents))
         })
         .collect();
+    let list = list.repeat(4);
+    assert_eq!(list.len(), 360);
     let mut buffer = vec![0; 11 * list.len()];
     assert_eq!(write(&list, &mut buffer), Ok(list.len()));
     let mut back = vec![Payment::default(); list.len()];

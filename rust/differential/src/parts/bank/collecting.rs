@@ -8,19 +8,19 @@ use crate::rng::Rng;
 use crate::tally::Tally;
 use finaruvom::raw::Line;
 
-/// Commands and lines with each end, in lists of any length.
+/// Few commands and lines, at times many, with each end.
 pub fn case(rng: &mut Rng, tally: &mut Tally) -> Outcome {
     for (end, kind) in ENDS.into_iter().enumerate() {
-        let whole: Vec<_> = (0..rng.below(6)).map(|_| command(rng)).collect();
+        let count = if rng.one_in(16) { 300 } else { rng.below(6) };
+        let whole: Vec<_> = (0..count).map(|_| command(rng)).collect();
         let mut lines: Vec<_> = whole.iter().map(|_| line(rng)).collect();
-        let needs = count(&whole, &lines);
+        let needs = paying(&whole, &lines);
         let mut commands = whole.concat();
         commands.extend(behind(rng, end));
         if end != 1 {
             lines.extend([(); 2].map(|()| line(rng)));
         }
-        for _ in 0..4 {
-            let room = room(rng, needs);
+        for room in [needs, room(rng, needs), room(rng, needs), room(rng, needs)] {
             let counted = collect(&commands, &lines, &mut wild(rng, room), tally)?;
             match room < needs {
                 true => answered(kind, counted, 18, 0)?,
@@ -71,9 +71,9 @@ fn besides<'a>(
 }
 
 /// How many payments there are: those of each line above zero, but for 01.
-fn count(commands: &[Vec<u8>], lines: &[Line]) -> usize {
-    let paying = besides(commands, lines).filter(|beside| beside.opcode != 1);
-    let amounts = paying.flat_map(|beside| {
+fn paying(commands: &[Vec<u8>], lines: &[Line]) -> usize {
+    let others = besides(commands, lines).filter(|beside| beside.opcode != 1);
+    let amounts = others.flat_map(|beside| {
         let answer = beside.line.answer;
         [answer.customer.0, answer.merchant.0]
     });

@@ -35,12 +35,11 @@ pub fn case(rng: &mut Rng, tally: &mut Tally) -> Outcome {
     Ok(())
 }
 
-/// Entries into a list that is long enough or not.
+/// Entries into a list that is exact, and into others of any length.
 fn rooms(rng: &mut Rng, tally: &mut Tally) -> Outcome {
     let count = rng.below(5);
     let bytes = entries(rng, count).concat();
-    for _ in 0..4 {
-        let room = room(rng, count);
+    for room in [count, room(rng, count), room(rng, count), room(rng, count)] {
         let counted = read(&bytes, &mut wild(rng, room), tally)?;
         match room < count {
             true => answered("read", counted, 18, 0)?,

@@ -8,23 +8,10 @@ use crate::rng::Rng;
 use crate::tally::Tally;
 use oracle::bank::{Payment, ENTRY};
 
-/// A list in rooms of any kind, each way to spoil a payment, and any lists.
+/// A short list, each way to spoil a payment, and any lists.
 pub fn case(rng: &mut Rng, tally: &mut Tally) -> Outcome {
     let count = rng.below(5);
-    let list = payments(rng, count);
-    for _ in 0..4 {
-        let room = room(rng, ENTRY * count);
-        let mut buffer = rng.bytes(room);
-        let (refusal, written) = match room < ENTRY * count {
-            true => (18, 0),
-            false => (0, count),
-        };
-        let counted = write(&list, &mut buffer, tally)?;
-        answered("written", counted, refusal, written)?;
-        if refusal == 0 {
-            read_back(rng, &list, &buffer[..ENTRY * count], tally)?;
-        }
-    }
+    held(rng, count, tally)?;
     for (kind, spoil) in UNWRITABLE {
         spoilt(rng, spoil, tally).map_err(|text| format!("{kind}: {text}"))?;
         tally.compared(kind);
@@ -33,6 +20,24 @@ pub fn case(rng: &mut Rng, tally: &mut Tally) -> Outcome {
         let list = wild(rng, count);
         let room = room(rng, ENTRY * count);
         write(&list, &mut rng.bytes(room), tally)?;
+    }
+    Ok(())
+}
+
+/// A list that entries hold, in a buffer that is exact, and in others of any length.
+pub fn held(rng: &mut Rng, count: usize, tally: &mut Tally) -> Outcome {
+    let list = payments(rng, count);
+    let needs = ENTRY * count;
+    for room in [needs, room(rng, needs), room(rng, needs), room(rng, needs)] {
+        let mut buffer = rng.bytes(room);
+        let counted = write(&list, &mut buffer, tally)?;
+        match room < needs {
+            true => answered("written", counted, 18, 0)?,
+            false => {
+                answered("written", counted, 0, count)?;
+                read_back(rng, &list, &buffer[..needs], tally)?;
+            }
+        }
     }
     Ok(())
 }

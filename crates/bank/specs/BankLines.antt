@@ -1,0 +1,62 @@
+-- Document 02, No. 6: what was written comes back, an accepted byte string is the only one for its list, and what is collected from a run is what its answers paid.
+use Prim.Native.Nat.{ℕ, _*_, _≤_}
+use mathlib.Core.Path.{_≡_}
+use mathlib.Core.Bool.{cond}
+use mathlib.Core.List.{List, [], map}
+use lib.Dec.{eqb}
+use lib.ListN.{length, take}
+use Rattle.wire.specs.Parts.{pasted}
+use Rattle.machine.specs.Ledger.{Entry, Paid, sum, paid, strings}
+use Rattle.machine.specs.declared.state.Book.{Book}
+use Rattle.journal.specs.Runs.{runOf}
+use Rattle.journal.specs.Divided.{divided, told}
+use Rattle.journal.specs.declared.lines.Line.{Line}
+use Rattle.bank.specs.Payments.{listed, paymentOf, collected}
+use Rattle.bank.specs.Answers.{accepted, Filled, writeOf, readOf}
+use Rattle.bank.specs.declared.lists.Payment.{Payment}
+
+-- ---- writing and reading
+
+-- The bytes that writing l put into the buffer, and the entries that a call put into its list.
+abbrev pub wrote : List Payment → List ℕ → List ℕ
+wrote l buffer = take (11 * length l) ((writeOf l buffer) .buffer)
+
+abbrev pub got : Filled → List (List ℕ)
+got f = take (f .answer .payments) (f .list)
+
+pub record BankLines : Type 0 where
+  -- every payment list that was written comes back equal in a list long enough
+  pub returns : (l : List Payment) (buffer : List ℕ) (list : List (List ℕ)) → (writeOf l buffer) .answer .refusal ≡ 0 → length l ≤ length list
+      → readOf (wrote l buffer) list ≡ record { answer = accepted (length l); list = pasted list 0 (map listed l) }
+  -- a byte string that is accepted is the only one for its list
+  pub only : (x y : List ℕ) (list other : List (List ℕ)) → (readOf x list) .answer .refusal ≡ 0 → (readOf y other) .answer .refusal ≡ 0
+      → got (readOf x list) ≡ got (readOf y other) → x ≡ y
+  -- it is the one that is written for that list
+  pub again : (x : List ℕ) (list : List (List ℕ)) (buffer : List ℕ) → (readOf x list) .answer .refusal ≡ 0 → length x ≤ length buffer
+      → writeOf (map paymentOf (got (readOf x list))) buffer ≡ record { answer = accepted (length (got (readOf x list))); buffer = pasted buffer 0 x }
+
+-- ---- collecting
+
+-- What a payment pays to a party; in channel n.
+abbrev pub paidTo : ℕ → Payment → ℕ
+paidTo party p = cond (eqb (p .party) party) (p .amount .0) 0
+
+abbrev pub paidToIn : ℕ → ℕ → Payment → ℕ
+paidToIn n party p = cond (eqb (p .channel) n) (paidTo party p) 0
+
+abbrev pub sides : (ℕ → Payment → ℕ) → List Payment → Paid
+sides f l = record { customer = sum (f 1) l; merchant = sum (f 2) l }
+
+-- What the answers in a history paid to each side.
+abbrev pub answered : List Entry → Paid
+answered h = record { customer = sum (λ e. e .answer .customer .0) h; merchant = sum (λ e. e .answer .merchant .0) h }
+
+pub record AddsUp (ps : List Payment) (h : List Entry) : Type 0 where
+  -- all payments, side by side, are all that the answers paid
+  pub all : sides paidTo ps ≡ answered h
+  -- those of channel n are what the strings of n paid
+  pub each : (n : ℕ) → sides (paidToIn n) ps ≡ paid (strings n h)
+
+-- Of every run, whatever book it begins with: its own commands and lines, and the history that they tell.
+abbrev pub CollectedAddsUp : Type 0
+CollectedAddsUp = (b : Book) (cs : List ℕ) (ls : List Line) → let d = runOf b cs ls in AddsUp (collected cs (d .lines)) (told [] (divided (length ls) cs) (d .lines))
