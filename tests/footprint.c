@@ -1,6 +1,6 @@
-// How often each call copies the book or the signer and how much stack it takes, held to limits: a command copies the book out of the lender's memory
-// and back, and no more, and the stack is what the header says. A further copy that the compiler wrote without a call would show on the stack.
-// With --short it makes no key, which takes seconds.
+// How often each call copies the book, the signer or the list, and how much stack it takes, held to limits: a command copies the book out of the lender's
+// memory and back, and no more, a list is not copied, and the stack is what the header says. A further copy that the compiler wrote without a call would
+// show on the stack. With --short it makes no key, which takes seconds.
 #define _XOPEN_SOURCE 700
 #include "../bench/copied.h"
 #include <stdio.h>
@@ -8,7 +8,7 @@
 #include <string.h>
 #include <ucontext.h>
 
-enum { N = 5, CLOCK = 1000, STACK = 1 << 19, PAINT = 0xA5, MUTUAL = 5, MAKING_COPIES = 1, SIGNING_COPIES = 3 };
+enum { N = 5, CLOCK = 1000, STACK = 1 << 19, PAINT = 0xA5, MUTUAL = 5, MAKING_COPIES = 1, SIGNING_COPIES = 3, SETTLES = 1024, PAYMENTS = 2 * SETTLES };
 
 // What a call is lent, how often it copies that at most, and how many bytes it copies in all; a key making copies some 780 for each leaf.
 struct lent {
@@ -18,6 +18,7 @@ struct lent {
 static const struct lent lent_book = {"book", 2, 2 * FINARUVOM_BOOK_SIZE + 4096};
 static const struct lent lent_to_make = {"signer", MAKING_COPIES, MAKING_COPIES * FINARUVOM_SIGNER_SIZE + 800 * FINARUVOM_LEAVES};
 static const struct lent lent_to_sign = {"signer", SIGNING_COPIES, SIGNING_COPIES * FINARUVOM_SIGNER_SIZE + 4096};
+static const struct lent lent_list = {"list", 0, 4096};
 
 static struct finaruvom_book book;
 static struct finaruvom_signer signer;
@@ -166,6 +167,25 @@ static void sign_message(void) {
     answer = (struct finaruvom_answer){.refusal = finaruvom_sign(&signer, nonce, nonce_n, command, FINARUVOM_LONGEST_MESSAGE).refusal};
 }
 
+// Settles that pay both sides, their payments and the entries of these, each larger than a book's channels, and the payments that there is room for.
+static uint8_t settles[3 * SETTLES], entries[FINARUVOM_ENTRY_SIZE * PAYMENTS];
+static struct finaruvom_line paid[SETTLES];
+static struct finaruvom_payment payments[PAYMENTS];
+static struct finaruvom_counted counted;
+static size_t room = PAYMENTS;
+
+static void collect(void) {
+    counted = finaruvom_collect(settles, sizeof settles, paid, SETTLES, payments, room);
+}
+
+static void write_payments(void) {
+    counted = finaruvom_write(payments, PAYMENTS, entries, room * FINARUVOM_ENTRY_SIZE);
+}
+
+static void read_payments(void) {
+    counted = finaruvom_read_payments(entries, sizeof entries, payments, room);
+}
+
 static ucontext_t here, there;
 static uint8_t stack[STACK];
 
@@ -194,7 +214,7 @@ static size_t binding;
 static size_t measure_lent(const struct lent *lent, const char *name, void (*call)(void), bool expected(void), size_t turns, size_t limit) {
     size_t took = stack_of(call), copies = (books_copied + turns - 1) / turns;
     bool answer_good = expected(), small = copies <= lent->copies && copied <= turns * lent->bytes && took + binding <= limit;
-    printf("%-20s copies of the %s %zu, bytes copied %6zu, of stack %6zu%s%s\n", name, lent->name, copies, copied / turns, took,
+    printf("%-23s copies of the %s %zu, bytes copied %6zu, of stack %6zu%s%s\n", name, lent->name, copies, copied / turns, took,
            answer_good ? "" : ": ANOTHER ANSWER", small ? "" : ": OVER ITS LIMIT");
     wrong |= !answer_good || !small;
     return took;
@@ -246,6 +266,35 @@ static void signers(bool makes) {
     measure_lent(&lent_to_make, "make refused with 2", make_key, refused, 1, FINARUVOM_STACK_MAKE_KEY);
 }
 
+static bool counted_all(void) {
+    return counted.refusal == refusal && counted.payments == (refusal == 0 ? PAYMENTS : 0);
+}
+
+static void measure_bank(const char *name, void (*call)(void), uint32_t expected) {
+    refusal = expected;
+    measure_lent(&lent_list, name, call, counted_all, 1, FINARUVOM_STACK_BANK);
+}
+
+// The calls for the bank, accepted and refused: without room for the last, and with a last payment and a last entry that are wrong.
+static void bank(void) {
+    for (size_t i = 0; i < SETTLES; i++) {
+        settles[3 * i] = 10;
+        paid[i].answer = (struct finaruvom_answer){.customer = i + 1, .merchant = FINARUVOM_LARGEST_AMOUNT - i};
+    }
+    measure_bank("collect", collect, 0);
+    measure_bank("write", write_payments, 0);
+    measure_bank("read payments", read_payments, 0);
+    room--;
+    measure_bank("collect refused with 18", collect, 18);
+    measure_bank("write refused with 18", write_payments, 18);
+    measure_bank("read refused with 18", read_payments, 18);
+    room++;
+    payments[PAYMENTS - 1].amount = 0;
+    measure_bank("write refused with 17", write_payments, 17);
+    entries[sizeof entries - 1] = 0;
+    measure_bank("read refused with 19", read_payments, 19);
+}
+
 int main(int argc, char **argv) {
     bool makes = argc < 2 || strcmp(argv[1], "--short") != 0;
     size_t first = stack_of(open_book);
@@ -273,5 +322,6 @@ int main(int argc, char **argv) {
     refusal = 14;
     measure("open refused with 14", open_without_default, refused, 1, FINARUVOM_STACK_OPEN);
     signers(makes);
+    bank();
     return wrong;
 }

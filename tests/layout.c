@@ -19,6 +19,10 @@ SIZE(reading, 72); AT(reading, total, 0); AT(reading, held, 8); AT(reading, dead
 AT(reading, refusal, 32); AT(reading, status, 36); AT(reading, lock, 40);
 SIZE(found, 2); AT(found, some, 0); AT(found, channel, 1);
 SIZE(ran, 24); AT(ran, lines, 0); AT(ran, used, 8); AT(ran, cause, 16);
+SIZE(payment, 24); AT(payment, party, 0); AT(payment, channel, 8); AT(payment, amount, 16);
+SIZE(counted, 16); AT(counted, refusal, 0); AT(counted, payments, 8);
+_Static_assert(FINARUVOM_ENTRY_SIZE == 11, "entry");
+_Static_assert(FINARUVOM_LARGEST_AMOUNT == 999999999999999, "largest amount");
 SIZE(versions, 16); AT(versions, major, 0); AT(versions, minor, 4); AT(versions, patch, 8); AT(versions, layout, 12);
 SIZE(node, 32); AT(node, value, 0);
 SIZE(signer, 65628); AT(signer, key, 0); AT(signer, seed, 56); AT(signer, next, 88); AT(signer, nodes, 92);
@@ -40,6 +44,8 @@ FILLED(reading, OF(reading, total) + OF(reading, held) + OF(reading, deadline) +
                     OF(reading, status) + OF(reading, lock));
 FILLED(found, OF(found, some) + OF(found, channel));
 FILLED(ran, OF(ran, lines) + OF(ran, used) + OF(ran, cause));
+FILLED(payment, OF(payment, party) + OF(payment, channel) + OF(payment, amount));
+FILLED(counted, OF(counted, refusal) + OF(counted, payments));
 FILLED(versions, OF(versions, major) + OF(versions, minor) + OF(versions, patch) + OF(versions, layout));
 FILLED(node, OF(node, value));
 FILLED(signer, OF(signer, key) + OF(signer, seed) + OF(signer, next) + OF(signer, nodes));
@@ -225,6 +231,27 @@ static void not_made(void) {
     same("a tree's zeros", &signer, 92, &zeros, sizeof signer - 92);
 }
 
+// A settle's payments, collected and read back; a payment that stands behind them is no payment.
+static void bank_lines(void) {
+    static const struct finaruvom_line line = {{.customer = 700, .merchant = 300, .refusal = 5}};
+    struct finaruvom_payment list[3];
+    uint8_t bytes[22];
+    memset(list, 0x55, sizeof list);
+    struct finaruvom_counted counted = finaruvom_collect((const uint8_t[]){10, 0, 3}, 3, &line, 1, list, 3);
+    number("refusal of a collecting", &counted, 0, 0, 8), number("payments collected", &counted, 8, 2, 8);
+    number("the first party", list, 0, 1, 8), number("the first n", list, 8, 3, 8), number("the first amount", list, 16, 700, 8);
+    number("the second party", list, 24, 2, 8), number("the second n", list, 32, 3, 8), number("the second amount", list, 40, 300, 8);
+    number("a later payment", list, 48, 0x5555555555555555, 8);
+    counted = finaruvom_write(list, 3, bytes, sizeof bytes);
+    number("refusal of a writing", &counted, 0, 17, 8), number("payments of a refused writing", &counted, 8, 0, 8);
+    counted = finaruvom_write(list, 2, bytes, sizeof bytes);
+    number("payments written", &counted, 8, 2, 8);
+    same("the second entry", bytes, 11, (const uint8_t[]){2, 0, 3, 0, 0, 0, 0, 0, 0, 0x30, 0x0c}, 11);
+    counted = finaruvom_read_payments(bytes, sizeof bytes, list + 1, 2);
+    number("refusal of a reading of payments", &counted, 0, 0, 8), number("payments read", &counted, 8, 2, 8);
+    number("the party read", list, 48, 2, 8), number("the n read", list, 56, 3, 8), number("the amount read", list, 64, 300, 8);
+}
+
 int main(void) {
     version();
     settings();
@@ -233,6 +260,7 @@ int main(void) {
     closing();
     signing();
     not_made();
+    bank_lines();
     puts("ok: every field stands where the header says, and no struct has padding");
     return 0;
 }

@@ -62,12 +62,12 @@ known cs room g = known-size (opcode cs) (omega (arith, fits cs room .some g, go
 
 -- ---- what is collected
 
-collected-stop : (cs : List ℕ) (ls : List Line) → (nextOf cs (length ls)) .goes ≡ false → collected cs ls ≡ []
+pub collected-stop : (cs : List ℕ) (ls : List Line) → (nextOf cs (length ls)) .goes ≡ false → collected cs ls ≡ []
 unfolding collected
 collected-stop cs [] g = refl
 collected-stop cs (l ∷ ls) g = rw g
 
-collected-go : (cs : List ℕ) (l : Line) (ls : List Line) → (nextOf cs (suc (length ls))) .goes ≡ true
+pub collected-go : (cs : List ℕ) (l : Line) (ls : List Line) → (nextOf cs (suc (length ls))) .goes ≡ true
     → collected cs (l ∷ ls) ≡ paidIn (take ((nextOf cs (suc (length ls))) .size) cs) l ++ collected (drop ((nextOf cs (suc (length ls))) .size) cs) ls
 unfolding collected
 collected-go cs l ls g = rw g

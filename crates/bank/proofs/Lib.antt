@@ -1,4 +1,4 @@
--- Entries byte by byte; lists one by one; what the calls answer; turns of collecting; commands and lines side by side; collecting before each turn; digits and half bytes; entries there and back.
+-- Entries byte by byte; lists one by one; what the calls answer; turns of collecting; commands and lines side by side; collecting before each turn; digits and half bytes; entries there and back; what they come to.
 pub mod EntryBytes
 pub mod Listing
 pub mod Answering
@@ -7,3 +7,5 @@ pub mod Commands
 pub mod CollectState
 pub mod Digits
 pub mod RoundTrips
+pub mod ComesBack
+pub mod Sums
