@@ -216,7 +216,11 @@ pub extern "C" fn finaruvom_sign(signer: &mut Signer, nonce: &[u8], message: &[u
 
 // Collects the payments above zero of commands and their lines: 18 where the list is too short for them; refused, it keeps every entry.
 #[no_mangle]
-pub extern "C" fn finaruvom_collect(commands: &[u8], lines: &[Line], list: &mut [[u64; 3]]) -> Counted
+pub extern "C" fn finaruvom_collect(
+    commands: &[u8],
+    lines: &[Line],
+    list: &mut [[u64; 3]],
+) -> Counted
     ensures { λ r. ⌜ (r ≡ collectOf (now (commands .entry)) (now (lines .entry)) (now (list .entry)) .answer)
         × (now (list .exit) ≡ collectOf (now (commands .entry)) (now (lines .entry)) (now (list .entry)) .list) ⌝ }
 {

@@ -20,9 +20,12 @@ loop-again : tie.Need-loop-again Inv-loop μ-loop
 loop-again c =
     let l = c .before .before in
     let x = l .before .before .args .bytes .now in
-    let n = length x / 11 in
-    (refl, omega arith, tested-next good (entriesOf x) (l .loop .ok) (l .loop .i) (l .loop .inv .2) [] _ (omega (arith, parted-length n x))
-    (c .good-at .ensures ∙ ap good (sym (parted-at n (l .loop .i) x [] (omega arith)))))
+    let n = length x / 11 in (
+      refl,
+      omega arith,
+      tested-next good (entriesOf x) (l .loop .ok) (l .loop .i) (l .loop .inv .2) [] _ (omega (arith, parted-length n x))
+          (c .good-at .ensures ∙ ap good (sym (parted-at n (l .loop .i) x [] (omega arith)))),
+    )
 
 returns : tie.Need-returns Inv-loop μ-loop
 returns c =

@@ -34,8 +34,11 @@ returns-3 c =
     let a = c .before .before .before .before .before .before .before .before .args in
     let x = a .bytes .now in
     let n = length-map (entriesOf x) paymentIn ∙ parted-length (length x / 11) x in
-    rw (read-0 x (a .list .now) ((has-room (length x % 11) (length x / 11) (length (a .list .now)) (c .before .before .before .before .before .before .if1 .left)) .0)
-    (sym (c .before .before .before .before .before .all-good .ensures) ∙ not-false _ (c .before .before .before .before .if2 .left)), n)
+    rw (
+      read-0 x (a .list .now) ((has-room (length x % 11) (length x / 11) (length (a .list .now)) (c .before .before .before .before .before .before .if1 .left)) .0)
+          (sym (c .before .before .before .before .before .all-good .ensures) ∙ not-false _ (c .before .before .before .before .if2 .left)),
+      n,
+    )
     (c .accepted .ensures, c .before .before .put-payments .ensures)
 
 pub read-spec : {M : Type 1} → statement M
