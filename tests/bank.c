@@ -87,7 +87,7 @@ static void answered(struct finaruvom_counted is, char **words, const void *lent
     must(is.payments == n, "another number of payments");
     must(memcmp(lent, expected, end) == 0, "it leaves something else");
     must(memcmp((const uint8_t *)lent + end, (const uint8_t *)expected + end, size - end) == 0,
-         refusal == 0 ? "it changes what stands behind the last" : "it is refused, and changes what it was lent");
+         refusal == 0 ? "it changes what stands behind the last" : "it changes what a refused call keeps");
     refusals[refusal]++;
 }
 
@@ -285,13 +285,13 @@ static void every_command(void) {
         }
     }
     struct finaruvom_counted is = finaruvom_collect(commands, sizeof commands, lines, 10, list, MOST);
-    at = "collecting of every command";
+    at = "collecting every command";
     must(is.refusal == FINARUVOM_ACCEPTED && is.payments == n && memcmp(list, payments, sizeof list) == 0, "it leaves something else");
 }
 
 static struct finaruvom_payment many[2 * SETTLES], again[2 * SETTLES];
 
-// Two payments of each command of a journal that is as long as one may be, and has as many commands as it can: lists and buffers one too short, then long enough.
+// A journal as long as one may be, of the shortest commands, with two payments each: lists and buffers that are one too short, then long enough.
 static void longest(void) {
     static uint8_t commands[3 * SETTLES], file[2 * SETTLES * ENTRY];
     static struct finaruvom_line paid[SETTLES];

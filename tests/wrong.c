@@ -318,3 +318,188 @@ struct finaruvom_ran finaruvom_run(struct finaruvom_book *book, const uint8_t *c
     return ran;
 }
 #endif
+
+#ifdef COLLECT
+// A payment of a command, to a list that may be full; gives the number of payments with it.
+static inline size_t put(struct finaruvom_payment *list, size_t room, size_t n, uint64_t party, const uint8_t *command, uint64_t amount) {
+    uint64_t channel = (uint64_t)(command[1] << 8 | command[2]);
+#ifdef CUTS_N
+    channel &= 0xFF;
+#endif
+#ifndef ZEROS_TOO
+    if (amount == 0)
+        return n;
+#endif
+    if (n < room)
+        list[n] = (struct finaruvom_payment){party, channel, amount};
+    return n + 1;
+}
+
+// The payments of a command with this line.
+static inline size_t put_both(struct finaruvom_payment *list, size_t room, size_t n, const uint8_t *command, const struct finaruvom_answer *answer) {
+#ifndef TAKES_01
+    if (command[0] == 1)
+        return n;
+#endif
+#ifdef SKIPS_REFUSED
+    if (answer->refusal != FINARUVOM_ACCEPTED)
+        return n;
+#endif
+#ifdef MERCHANT_FIRST
+    n = put(list, room, n, FINARUVOM_TO_MERCHANT, command, answer->merchant);
+    return put(list, room, n, FINARUVOM_TO_CUSTOMER, command, answer->customer);
+#else
+    n = put(list, room, n, FINARUVOM_TO_CUSTOMER, command, answer->customer);
+    return put(list, room, n, FINARUVOM_TO_MERCHANT, command, answer->merchant);
+#endif
+}
+
+static inline size_t size_of(uint8_t first) {
+#ifdef ANOTHER_SIZE
+    if (first == 8)
+        return finaruvom_size(9);
+#endif
+    return finaruvom_size(first);
+}
+
+// Collects as far as there is room, and gives the number of all payments.
+static inline size_t gathered(const uint8_t *commands, size_t commands_n, const struct finaruvom_line *lines, size_t lines_n,
+                              struct finaruvom_payment *list, size_t room) {
+    size_t n = 0, at = 0, size = 0;
+    for (size_t i = 0; i < lines_n && at < commands_n && (size = size_of(commands[at])) != 0; at += size, i++) {
+#ifndef CUT_SHORT_TOO
+        if (size > commands_n - at)
+            break;
+#endif
+#ifdef NO_LINE_FOR_01
+        i -= commands[at] == 1;
+#endif
+        n = put_both(list, room, n, commands + at, &lines[i].answer);
+    }
+    return n;
+}
+
+struct finaruvom_counted finaruvom_collect(const uint8_t *commands, size_t commands_n, const struct finaruvom_line *lines, size_t lines_n,
+                                           struct finaruvom_payment *list, size_t list_n) {
+#ifdef COPIES
+    static struct finaruvom_payment copy[512];
+    memcpy(copy, list, sizeof copy);
+#endif
+#ifdef DEEP
+    volatile uint8_t room[FINARUVOM_STACK_BANK];
+    (void)room;
+#endif
+    size_t n = gathered(commands, commands_n, lines, lines_n, list, 0);
+#ifndef LISTS_ANYWAY
+    if (n <= list_n)
+#endif
+        gathered(commands, commands_n, lines, lines_n, list, list_n);
+    if (n > list_n)
+        return (struct finaruvom_counted){FINARUVOM_ROOM, 0};
+#ifdef CLEARS_BEHIND
+    memset(list + n, 0, (list_n - n) * sizeof *list);
+#endif
+    return (struct finaruvom_counted){FINARUVOM_ACCEPTED, n};
+}
+#endif
+
+#ifdef WRITE // COPIES: it does in any case
+struct finaruvom_counted right(const struct finaruvom_payment *list, size_t list_n, uint8_t *buffer, size_t buffer_n);
+
+// What is made of a payment before it is written.
+static inline struct finaruvom_payment cut(struct finaruvom_payment payment) {
+#ifdef CUTS_N
+    payment.channel &= 0xFFFF;
+#endif
+#ifdef CUTS_PARTY
+    payment.party &= 0xFF;
+#endif
+#ifdef CUTS_AMOUNT
+    if (payment.amount > FINARUVOM_LARGEST_AMOUNT)
+        payment.amount = FINARUVOM_LARGEST_AMOUNT;
+#endif
+    return payment;
+}
+
+struct finaruvom_counted finaruvom_write(const struct finaruvom_payment *list, size_t list_n, uint8_t *buffer, size_t buffer_n) {
+    struct finaruvom_payment given[list_n + 1];
+    for (size_t i = 0; i < list_n; i++)
+        given[i] = cut(list[i]);
+#ifdef ROOM_FIRST
+    if (buffer_n < list_n * FINARUVOM_ENTRY_SIZE)
+        return (struct finaruvom_counted){FINARUVOM_ROOM, 0};
+#endif
+#ifdef SHORT_ROOM
+    buffer_n &= 0xFFFF;
+#endif
+    struct finaruvom_counted counted = right(given, list_n, buffer, buffer_n);
+#ifdef WRITES_ANYWAY
+    if (counted.refusal != FINARUVOM_ACCEPTED && buffer_n > 0)
+        buffer[0] = (uint8_t)list[0].party;
+#endif
+#ifdef COUNTS_ANYWAY
+    counted.payments = list_n;
+#endif
+#ifdef D_LAST
+    for (size_t i = 0; i < counted.payments; i++)
+        buffer[i * FINARUVOM_ENTRY_SIZE + 10] |= 0x0D;
+#endif
+#ifdef CLEARS_BEHIND
+    size_t end = counted.payments * FINARUVOM_ENTRY_SIZE;
+    if (counted.refusal == FINARUVOM_ACCEPTED)
+        memset(buffer + end, 0, buffer_n - end);
+#endif
+    return counted;
+}
+#endif
+
+#ifdef READ_PAYMENTS // COPIES: it does in any case
+struct finaruvom_counted right(const uint8_t *bytes, size_t bytes_n, struct finaruvom_payment *list, size_t list_n);
+
+// What is made of an entry before it is read.
+static inline void mend(uint8_t entry[FINARUVOM_ENTRY_SIZE]) {
+#ifdef ANY_LAST
+    entry[10] = (uint8_t)((entry[10] & 0xF0) | 0x0C);
+#endif
+#ifdef ANY_HALF
+    for (int i = 3; i < 11; i++)
+        entry[i] = entry[i] > 0x9F ? 0x90 | (entry[i] & 0x0F) : entry[i];
+#endif
+#ifdef ANY_PARTY
+    entry[0] = entry[0] > 2 ? 2 : entry[0];
+#endif
+#ifdef CUTS_N
+    entry[1] = 0;
+#endif
+    (void)entry;
+}
+
+struct finaruvom_counted finaruvom_read_payments(const uint8_t *bytes, size_t bytes_n, struct finaruvom_payment *list, size_t list_n) {
+    uint8_t given[bytes_n + 1];
+    memcpy(given, bytes, bytes_n);
+    for (size_t i = 0; i + FINARUVOM_ENTRY_SIZE <= bytes_n; i += FINARUVOM_ENTRY_SIZE)
+        mend(given + i);
+#ifdef DROPS_THE_REST
+    bytes_n -= bytes_n % FINARUVOM_ENTRY_SIZE;
+#endif
+#ifdef ENTRIES_FIRST
+    size_t whole = bytes_n / FINARUVOM_ENTRY_SIZE;
+    struct finaruvom_payment all[whole + 1];
+    if (right(bytes, whole * FINARUVOM_ENTRY_SIZE, all, whole).refusal == FINARUVOM_ENTRY)
+        return (struct finaruvom_counted){FINARUVOM_ENTRY, 0};
+#endif
+    struct finaruvom_counted counted = right(given, bytes_n, list, list_n);
+#ifdef LISTS_ANYWAY
+    if (counted.refusal != FINARUVOM_ACCEPTED && list_n > 0)
+        list[0] = (struct finaruvom_payment){FINARUVOM_TO_CUSTOMER, 0, 1};
+#endif
+#ifdef COUNTS_BYTES
+    counted.payments *= FINARUVOM_ENTRY_SIZE;
+#endif
+#ifdef CLEARS_BEHIND
+    if (counted.refusal == FINARUVOM_ACCEPTED)
+        memset(list + counted.payments, 0, (list_n - counted.payments) * sizeof *list);
+#endif
+    return counted;
+}
+#endif

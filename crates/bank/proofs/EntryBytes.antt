@@ -7,9 +7,11 @@ use mathlib.Core.Bool.{Bool, true, false, _&&_, and-true, and-assoc}
 use mathlib.Core.List.{List, [], _∷_, _++_}
 use lib.Dec.{leb, eqb}
 use lib.ListN.{length, getD, drop, drop-of-length-le}
-use lib.Seq.{drop-cons}
+use lib.Seq.{drop-cons, paste}
 use Rattle.wire.specs.Numbers.{bytes}
+use Rattle.wire.specs.Parts.{pasted}
 use Rattle.wire.proofs.Laws.{both}
+use Rattle.wire.proofs.Pasting.{pasted-more}
 use Rattle.machine.specs.Book.{all}
 use Rattle.bank.specs.declared.lists.Payment.{Payment}
 use Rattle.bank.specs.Packed.{digits, spelled, joined, halves, packed, entry, amountIn, isDigit, isPacked}
@@ -32,12 +34,17 @@ module _ (a b₀ b₁ b₂ b₃ b₄ b₅ b₆ : ℕ) where
       both (e₀ ∙ pair-is a 10000000000000) (both (e₁ ∙ pair-is a 100000000000) (both (e₂ ∙ pair-is a 1000000000) (both (e₃ ∙ pair-is a 10000000)
       (both (e₄ ∙ pair-is a 100000) (both (e₅ ∙ pair-is a 1000) (both (e₆ ∙ pair-is a 10) (both (rw div-one) refl)))))))
 
--- An entry's bytes.
-pub entry-is : (p : Payment) (l : List ℕ) → l ≡ packed (p .amount .0)
-    → (p .party % 256) ∷ (p .channel / 256 % 256) ∷ (p .channel % 256) ∷ getD l 0 0 ∷ getD l 1 0 ∷ getD l 2 0 ∷ getD l 3 0 ∷ getD l 4 0 ∷ getD l 5 0 ∷ getD l 6 0 ∷ getD l 7 0 ∷ []
-    ≡ entry p
-unfolding entry bytes packed digits joined
-entry-is p l e = rw e (both (omega arith) (both (omega arith) (both (omega arith) refl)))
+-- An entry: three bytes, and eight after them.
+pub entry-is : (p : Payment) → entry p ≡ (p .party % 256 ∷ p .channel / 256 % 256 ∷ p .channel % 256 ∷ []) ++ packed (p .amount .0)
+unfolding entry bytes
+entry-is p = both (omega arith) (both (omega arith) (both (omega arith) refl))
+
+pub entry-put : (p : Payment) (d out more : List ℕ) (at : ℕ) → let head = p .party % 256 ∷ p .channel / 256 % 256 ∷ p .channel % 256 ∷ [] in
+    out ≡ paste d at head 3 → more ≡ paste out (at + 3) (packed (p .amount .0)) (length (packed (p .amount .0))) → at + 3 ≤ length d → more ≡ pasted d at (entry p)
+unfolding pasted
+entry-put p d out more at o m h =
+    let head = p .party % 256 ∷ p .channel / 256 % 256 ∷ p .channel % 256 ∷ [] in
+    m ∙ rw (o, entry-is p) (pasted-more d at head (packed (p .amount .0)) h)
 
 -- ---- reading
 

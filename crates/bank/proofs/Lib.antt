@@ -9,3 +9,4 @@ pub mod Digits
 pub mod RoundTrips
 pub mod ComesBack
 pub mod Sums
+pub mod Worked

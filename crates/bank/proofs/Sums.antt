@@ -13,6 +13,7 @@ use Rattle.sha256.specs.Digest.{sha256}
 use Rattle.wire.proofs.Laws.{and-make}
 use Rattle.machine.specs.Book.{cents}
 use Rattle.machine.specs.Format.{opcode, place, time}
+use Rattle.machine.specs.Opening.{opening}
 use Rattle.machine.specs.Checks.{clean, passed, judge}
 use Rattle.machine.specs.Rules.{pay}
 use Rattle.machine.specs.Rules.{Payment as Pays}
@@ -27,10 +28,12 @@ use Rattle.machine.proofs.RightTurns.{right-turns}
 use Rattle.journal.specs.Runs.{Done, nextOf, turnedOf, runOf}
 use Rattle.journal.specs.Divided.{divided, told}
 use Rattle.journal.specs.declared.lines.Line.{Line}
+use Rattle.journal.specs.Calls.{Call, called}
+use Rattle.journal.proofs.Called.{journal-demand}
 use Rattle.journal.proofs.Turning.{fits, ahead, command, line, rest, with-lines, Claim, AtStop, AtTurn, by-turns}
 use Rattle.bank.specs.declared.lists.Payment.{Payment}
 use Rattle.bank.specs.Payments.{payment, above, paidIn, collected}
-use Rattle.bank.specs.BankLines.{paidTo, paidToIn, sides, answered, AddsUp, CollectedAddsUp}
+use Rattle.bank.specs.BankLines.{paidTo, paidToIn, sides, answered, AddsUp, CollectedAddsUp, ClosedSplit}
 use Rattle.bank.proofs.Commands.{Known, known, collected-stop, collected-go}
 
 -- ---- sums
@@ -237,3 +240,8 @@ collected-adds-up b cs ls = record {
     merchant = each-told b cs ls merchant (paidToIn n 2) n (λ a s k. each-merchant a s k n) i;
   };
 }
+
+pub closed-split : ClosedSplit
+unfolding called
+closed-split lent o ok cs ls n h c =
+    (collected-adds-up ((opening lent o) .book) cs ls) .each n ∙ (journal-demand lent o ok (Call.run cs ls ∷ []) n h) .splits c

@@ -1,12 +1,13 @@
 -- Document 02, No. 6: what was written comes back, an accepted byte string is the only one for its list, and what is collected from a run is what its answers paid.
-use Prim.Native.Nat.{ℕ, _*_, _≤_}
+use Prim.Native.Nat.{ℕ, _*_, _≤_, _<_}
 use mathlib.Core.Path.{_≡_}
-use mathlib.Core.Bool.{cond}
+use mathlib.Core.Bool.{true, cond}
 use mathlib.Core.List.{List, [], map}
 use lib.Dec.{eqb}
 use lib.ListN.{length, take}
 use Rattle.wire.specs.Parts.{pasted}
-use Rattle.machine.specs.Ledger.{Entry, Paid, sum, paid, strings}
+use Rattle.machine.specs.Opening.{Opening, opening}
+use Rattle.machine.specs.Ledger.{Entry, Paid, sum, paid, strings, closed, split}
 use Rattle.machine.specs.declared.state.Book.{Book}
 use Rattle.journal.specs.Runs.{runOf}
 use Rattle.journal.specs.Divided.{divided, told}
@@ -60,3 +61,9 @@ pub record AddsUp (ps : List Payment) (h : List Entry) : Type 0 where
 -- Of every run, whatever book it begins with: its own commands and lines, and the history that they tell.
 abbrev pub CollectedAddsUp : Type 0
 CollectedAddsUp = (b : Book) (cs : List ℕ) (ls : List Line) → let d = runOf b cs ls in AddsUp (collected cs (d .lines)) (told [] (divided (length ls) cs) (d .lines))
+
+-- So, of a journal on a book just opened, every closed channel's payments are the split of its way of closing.
+abbrev pub ClosedSplit : Type 0
+ClosedSplit =
+    (lent : Book) (o : Opening) → (opening lent o) .refusal ≡ 0 → (cs : List ℕ) (ls : List Line) (n : ℕ) → n < 64
+    → let d = runOf ((opening lent o) .book) cs ls in let l = strings n (told [] (divided (length ls) cs) (d .lines)) in closed l ≡ true → sides (paidToIn n) (collected cs (d .lines)) ≡ split l

@@ -4,3 +4,4 @@ pub mod Packed
 pub mod Answers
 pub mod Walks
 pub mod BankLines
+pub mod Figures

@@ -18,21 +18,14 @@ pub fn put_entry(buffer: &mut [u8], at: usize, p: Payment)
     requires { ⌜ at + 11 ≤ length (now buffer) ⌝ }
     ensures { λ _. ⌜ now (buffer .exit) ≡ pasted (now (buffer .entry)) at (entry p) ⌝ }
 {
-    let amount = packed(p.amount.0);
-    let bytes = [
+    let head = [
         (p.party % 256) as u8,
         (p.channel / 256 % 256) as u8,
         (p.channel % 256) as u8,
-        amount[0],
-        amount[1],
-        amount[2],
-        amount[3],
-        amount[4],
-        amount[5],
-        amount[6],
-        amount[7],
     ];
-    copy_into(&bytes, buffer, at);
+    let amount = packed(p.amount.0);
+    copy_into(&head, buffer, at);
+    copy_into(&amount, buffer, at + 3);
 }
 
 // The eleven bytes at a place.

@@ -1,35 +1,30 @@
-use Prim.Native.Nat.{ℕ}
-use mathlib.Core.Path.{ap, _∙_}
-use mathlib.Core.List.{List}
-use Rattle.wire.specs.Parts.{pasted}
-use Rattle.bank.proofs.EntryBytes.{entry-is}
+use native.Mathlib.Omega.{arith}
+use mathlib.Core.Path.{_≡_}
 use borrow.Author.Needs.{needs}
+use Rattle.bank.specs.Packed.{packed}
+use Rattle.bank.proofs.EntryBytes.{entry-put}
 use Rattle.bank.proofs.entries.put_entry.Statement.{statement}
 use Rattle.bank.proofs.entries.put_entry.Tie as tie
 
 returns : tie.Need-returns
-unfolding pasted
 returns c =
-    let y = c .before .before .copy-into in
-    let a = c .before .before .before .before .before .before .before .before .before .before .args in
-    let k = c .before .before .before .before .before .before .before .before .packed in
-    y .ensures ∙ ap (λ (l : List ℕ). pasted (a .buffer .now) (a .at) l) (entry-is (a .p) (k .result) (k .ensures))
+    let kp = c .before .before .before .before .before .before .before .before .before .before in
+    let k = kp .packed in
+    let s = kp .before .before .before .before .before in
+    let y = c .before .before .copy-into2 in
+    let e : k .result ≡ packed (s .args .p .amount .0) = k .ensures in
+    entry-put (s .args .p) (s .args .buffer .now) (c .before .before .before .before .before .before .before .copy-into .last .1 .0) (y .last .1 .0) (s .args .at) (c .before .before .before .before .before .before .before .copy-into .ensures) (rw e at (y .ensures)) (omega (arith, s .pre))
 
 pub put-entry-spec : {M : Type 1} → statement M
 put-entry-spec =
     tie.close
     (tie.spec
+    (λ c. search needs)
+    (λ c. search needs)
+    (λ c. search needs)
     (λ c κs. search needs)
     (λ c. search needs)
-    (λ c. search needs)
-    (λ c. search needs)
-    (λ c. search needs)
-    (λ c. search needs)
-    (λ c. search needs)
-    (λ c. search needs)
-    (λ c. search needs)
-    (λ c. search needs)
-    (λ c. search needs)
+    (λ c κs. search needs)
     (λ c. search needs)
     (λ c. search needs)
     (λ c κs. search needs)
