@@ -14,12 +14,13 @@ use Rattle.machine.specs.Format.{opcode, size}
 use Rattle.journal.specs.Runs.{Next, nextOf}
 use Rattle.journal.specs.declared.lines.Line.{Line}
 use Rattle.journal.proofs.Turning.{fits}
-use Rattle.bank.specs.declared.lists.Counted.{Counted}
-use Rattle.bank.specs.declared.lists.Payment.{Payment}
+use Rattle.payments.specs.declared.lists.Counted.{Counted}
+use Rattle.payments.specs.declared.lists.Payment.{Payment}
 use Rattle.bank.specs.declared.walking.Walk.{Walk}
 use Rattle.bank.specs.declared.walking.Turn.{Turn}
-use Rattle.bank.specs.Payments.{paidIn, collected}
-use Rattle.bank.specs.Answers.{accepted, refused, collectOf}
+use Rattle.bank.specs.Collected.{paidIn, collected}
+use Rattle.payments.specs.Answers.{accepted, refused}
+use Rattle.bank.specs.Answers.{collectOf}
 use Rattle.bank.specs.Walks.{noLine, begun, going, ended, atEnd, turnOf, commandOf, walked, storedBy}
 use Rattle.bank.proofs.Answering.{collect-0, collect-18}
 use Rattle.bank.proofs.Turns.{stored-none, stored-length, stored-more, counted-only, two-at-most}

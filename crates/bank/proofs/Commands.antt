@@ -13,8 +13,8 @@ use Rattle.command.proofs.Stepping.{least}
 use Rattle.journal.specs.Runs.{Next, stop, nextBy, nextOf}
 use Rattle.journal.specs.declared.lines.Line.{Line}
 use Rattle.journal.proofs.Turning.{fits}
-use Rattle.bank.specs.declared.lists.Payment.{Payment}
-use Rattle.bank.specs.Payments.{paidIn, collected}
+use Rattle.payments.specs.declared.lists.Payment.{Payment}
+use Rattle.bank.specs.Collected.{paidIn, collected}
 use Rattle.bank.specs.Walks.{noLine}
 
 -- ---- a command that goes

@@ -31,9 +31,10 @@ use Rattle.journal.specs.declared.lines.Line.{Line}
 use Rattle.journal.specs.Calls.{Call, called}
 use Rattle.journal.proofs.Called.{journal-demand}
 use Rattle.journal.proofs.Turning.{fits, ahead, command, line, rest, with-lines, Claim, AtStop, AtTurn, by-turns}
-use Rattle.bank.specs.declared.lists.Payment.{Payment}
-use Rattle.bank.specs.Payments.{payment, above, paidIn, collected}
-use Rattle.bank.specs.BankLines.{paidTo, paidToIn, sides, answered, AddsUp, CollectedAddsUp, ClosedSplit}
+use Rattle.payments.specs.declared.lists.Payment.{Payment}
+use Rattle.payments.specs.Payments.{payment}
+use Rattle.bank.specs.Collected.{above, paidIn, collected}
+use Rattle.bank.specs.AddsUp.{paidTo, paidToIn, sides, answered, AddsUp, CollectedAddsUp, ClosedSplit}
 use Rattle.bank.proofs.Commands.{Known, known, collected-stop, collected-go}
 
 -- ---- sums

@@ -15,13 +15,14 @@ use Rattle.machine.specs.Format.{opcode, place}
 use Rattle.journal.specs.Runs.{nextOf, aheadOf}
 use Rattle.journal.specs.declared.following.Ahead.{Ahead}
 use Rattle.journal.specs.declared.lines.Line.{Line}
-use Rattle.bank.specs.declared.lists.Payment.{Payment}
+use Rattle.payments.specs.declared.lists.Payment.{Payment}
 use Rattle.bank.specs.declared.walking.Walk.{Walk}
 use Rattle.bank.specs.declared.walking.Turn.{Turn}
-use Rattle.bank.specs.Payments.{payment, listed, above, paidIn}
-use Rattle.bank.specs.Answers.{accepted, refused}
+use Rattle.payments.specs.Payments.{payment, listed}
+use Rattle.bank.specs.Collected.{above, paidIn}
+use Rattle.payments.specs.Answers.{accepted, refused}
 use Rattle.bank.specs.Walks.{begun, going, ended, atEnd, turnOf, storedBy}
-use Rattle.bank.proofs.Listing.{pasted-set}
+use Rattle.payments.proofs.Listing.{pasted-set}
 
 -- ---- what comes next
 

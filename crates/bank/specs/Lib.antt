@@ -1,7 +1,6 @@
--- Document 02, No. 6: payments, entries in packed decimal, what collecting, writing and reading answer, and what holds of them together.
-pub mod Payments
-pub mod Packed
+-- Document 02, No. 6: what is collected from a run, how collecting goes, and what the payments come to.
+pub mod Collected
 pub mod Answers
 pub mod Walks
-pub mod BankLines
+pub mod AddsUp
 pub mod Figures

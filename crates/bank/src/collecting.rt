@@ -1,10 +1,10 @@
 // Collecting a run's payments into a lent list.
 use crate::lines::line_at;
-use crate::lists::Counted;
 use crate::walking::Walk;
 use crate::walking::taken;
 use crate::walking::turn_of;
 use journal::Line;
+use payments::Counted;
 ghost use mathlib.Core.Path.{_≡_};
 ghost use Rattle.bank.specs.Answers.{collectOf};
 

@@ -1,18 +1,18 @@
 // How collecting goes through commands and lines: once to count the payments and, where the list has room for them, once more to store them.
-use crate::lists::Counted;
-use crate::lists::Payment;
-use crate::lists::accepted;
-use crate::lists::listed;
-use crate::lists::refused;
 use journal::Line;
 use journal::next;
 use machine::Cents;
+use payments::Counted;
+use payments::Payment;
+use payments::accepted;
+use payments::listed;
+use payments::refused;
 use wire::u16_at;
 ghost use mathlib.Core.Path.{_≡_};
 ghost use mathlib.Core.Bool.{true};
 ghost use Prim.Native.Nat.{_+_, _^_, _<_, _≤_};
 ghost use lib.ListN.{length};
-ghost use Rattle.bank.specs.Payments.{above, paidIn};
+ghost use Rattle.bank.specs.Collected.{above, paidIn};
 ghost use Rattle.bank.specs.Walks.{begun, going, ended, atEnd, turnOf, commandOf, walked, storedBy};
 
 // How far it has come: whether it stores payments or counts them, bytes and lines behind it, and payments so far.

@@ -21,8 +21,9 @@ ghost use Rattle.machine.specs.Due.{due};
 ghost use Rattle.machine.specs.Real.{realStep};
 ghost use Rattle.journal.specs.Runs.{runOf, ranOf};
 ghost use Rattle.signer.specs.Answers.{makeOf, signOf};
-ghost use Rattle.bank.specs.Payments.{paymentOf};
-ghost use Rattle.bank.specs.Answers.{writeOf, readOf, collectOf};
+ghost use Rattle.payments.specs.Payments.{paymentOf};
+ghost use Rattle.payments.specs.Answers.{writeOf, readOf};
+ghost use Rattle.bank.specs.Answers.{collectOf};
 ghost use Rattle.finaruvom.specs.Fields.{fieldsOf};
 ghost use Rattle.finaruvom.specs.Release.{released};
 

@@ -36,8 +36,8 @@ use denote.Triple.Call.{calls-at}
 use Rattle.lending.proofs.Lent.{gave, hands-back, by-call}
 use Rattle.journal.specs.declared.lines.Line.{Line}
 use Rattle.journal.proofs.lines.Line as T
-use Rattle.bank.proofs.lists.Counted as N
-use Rattle.bank.proofs.lists.Counted.Laws as N′
+use Rattle.payments.proofs.lists.Counted as N
+use Rattle.payments.proofs.lists.Counted.Laws as N′
 use Rattle.bank.proofs.collect as collects
 use Rattle.bank.proofs.collect.Symbol as collect-def
 use Rattle.bank.proofs.collect.Met as collect-thm

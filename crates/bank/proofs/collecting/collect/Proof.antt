@@ -51,13 +51,13 @@ use Rattle.journal.proofs.lines.Line as T
 use Rattle.journal.proofs.lines.Line.Laws as T′
 use Rattle.journal.proofs.Again as Again
 use Rattle.journal.proofs.Walking.{owns-usize, line-val, IsLine, owns-line}
-use Rattle.bank.specs.declared.lists.Counted.{Counted}
+use Rattle.payments.specs.declared.lists.Counted.{Counted}
 use Rattle.bank.specs.declared.walking.Walk.{Walk}
 use Rattle.bank.specs.declared.walking.Turn.{Turn}
 use Rattle.bank.specs.Walks.{noLine, begun}
 use Rattle.bank.proofs.CollectState.{State, Place, TurnIs, TakenIs, at-start, ends, goes-on, has-line, has-bytes, pays-fit, after-turn, left, fewer}
-use Rattle.bank.proofs.lists.Counted as N
-use Rattle.bank.proofs.lists.Counted.Laws as N′
+use Rattle.payments.proofs.lists.Counted as N
+use Rattle.payments.proofs.lists.Counted.Laws as N′
 use Rattle.bank.proofs.walking.Walk as K
 use Rattle.bank.proofs.walking.Walk.Laws as K′
 use Rattle.bank.proofs.walking.Turn as U

@@ -6,8 +6,8 @@ use mathlib.Core.List.{List}
 use borrow.Author.Needs.{needs}
 use borrow.Author.Tests.{not-true, not-false}
 use lib.ListN.{length, set}
-use Rattle.bank.specs.declared.lists.Payment.{Payment}
-use Rattle.bank.specs.Payments.{above}
+use Rattle.payments.specs.declared.lists.Payment.{Payment}
+use Rattle.bank.specs.Collected.{above}
 use Rattle.bank.specs.Walks.{storedBy}
 use Rattle.bank.proofs.Turns.{none-above, one-above, stored-none, stored-one, counted-only}
 use Rattle.bank.proofs.walking.put.Statement.{statement}
