@@ -7,9 +7,9 @@ use lib.Dec.{leb}
 use lib.ListN.{length}
 use Rattle.wire.specs.Parts.{pasted}
 use Rattle.machine.specs.Checks.{ask}
-use Rattle.journal.specs.declared.lines.Line.{Line}
 use Rattle.payments.specs.Payments.{listed}
 use Rattle.payments.specs.Answers.{accepted, refused, refusalOf, filled}
+use Rattle.journal.specs.declared.lines.Line.{Line}
 use Rattle.bank.specs.Collected.{collected}
 use Rattle.bank.specs.Answers.{collectOf}
 

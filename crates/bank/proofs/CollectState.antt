@@ -5,21 +5,21 @@ use native.Mathlib.Numerals.{add-one}
 use native.Mathlib.Omega.{arith}
 use mathlib.Core.Path.{_≡_, refl, sym, ap, _∙_}
 use mathlib.Core.Bool.{Bool, true, false, cond, true≢false, false≢true}
-use mathlib.Core.List.{List, [], _∷_, _++_}
+use mathlib.Core.List.{List, [], _++_}
 use borrow.Author.Tests.{leb-true, le-leb}
 use lib.Dec.{leb}
 use lib.ListN.{length, take, drop, getD, length-append, length-drop}
 use lib.Seq.{drop-drop}
-use Rattle.machine.specs.Format.{opcode, size}
+use Rattle.machine.specs.Format.{size}
+use Rattle.payments.specs.declared.lists.Counted.{Counted}
+use Rattle.payments.specs.declared.lists.Payment.{Payment}
+use Rattle.payments.specs.Answers.{accepted, refused}
 use Rattle.journal.specs.Runs.{Next, nextOf}
 use Rattle.journal.specs.declared.lines.Line.{Line}
 use Rattle.journal.proofs.Turning.{fits}
-use Rattle.payments.specs.declared.lists.Counted.{Counted}
-use Rattle.payments.specs.declared.lists.Payment.{Payment}
 use Rattle.bank.specs.declared.walking.Walk.{Walk}
 use Rattle.bank.specs.declared.walking.Turn.{Turn}
 use Rattle.bank.specs.Collected.{paidIn, collected}
-use Rattle.payments.specs.Answers.{accepted, refused}
 use Rattle.bank.specs.Answers.{collectOf}
 use Rattle.bank.specs.Walks.{noLine, begun, going, ended, atEnd, turnOf, commandOf, walked, storedBy}
 use Rattle.bank.proofs.Answering.{collect-0, collect-18}

@@ -1,7 +1,7 @@
 -- Commands and lines side by side: the command that comes next, and what is collected with it.
-use Prim.Native.Nat.{ℕ, zero, suc, _+_, _-_, _≤_, _<_}
+use Prim.Native.Nat.{ℕ, zero, suc, _-_, _≤_, _<_}
 use native.Mathlib.Omega.{arith}
-use mathlib.Core.Path.{_≡_, refl, sym, ap, _∙_}
+use mathlib.Core.Path.{_≡_, refl}
 use mathlib.Core.Bool.{Bool, true, false, cond, false≢true}
 use mathlib.Core.List.{List, [], _∷_, _++_}
 use borrow.Author.Tests.{leb-true, leb-false}
@@ -13,7 +13,6 @@ use Rattle.command.proofs.Stepping.{least}
 use Rattle.journal.specs.Runs.{Next, stop, nextBy, nextOf}
 use Rattle.journal.specs.declared.lines.Line.{Line}
 use Rattle.journal.proofs.Turning.{fits}
-use Rattle.payments.specs.declared.lists.Payment.{Payment}
 use Rattle.bank.specs.Collected.{paidIn, collected}
 use Rattle.bank.specs.Walks.{noLine}
 

@@ -1,16 +1,16 @@
 -- What is collected from a run adds up to what its answers paid: `CollectedAddsUp`.
-use Prim.Native.Nat.{ℕ, suc, _+_, _≤_}
+use Prim.Native.Nat.{ℕ, suc, _+_}
 use native.Mathlib.Nat.{add-zero, zero-add, add-assoc}
 use native.Mathlib.Omega.{arith}
 use mathlib.Core.Path.{_≡_, refl, sym, ap, _∙_}
 use mathlib.Core.Bool.{Bool, true, false, cond, _&&_}
 use mathlib.Core.List.{List, [], _∷_, _++_}
-use borrow.Author.Tests.{eq-eqb, ne-eqb, eqb-true, eqb-false, le-leb}
-use lib.Dec.{eqb, leb}
-use lib.ListN.{length, take, drop, getD}
+use borrow.Author.Tests.{eq-eqb, eqb-true, eqb-false, le-leb}
+use lib.Dec.{eqb}
+use lib.ListN.{length}
 use lib.Seq.{getD-take}
-use Rattle.sha256.specs.Digest.{sha256}
 use Rattle.wire.proofs.Laws.{and-make}
+use Rattle.sha256.specs.Digest.{sha256}
 use Rattle.machine.specs.Book.{cents}
 use Rattle.machine.specs.Format.{opcode, place, time}
 use Rattle.machine.specs.Opening.{opening}
@@ -19,22 +19,21 @@ use Rattle.machine.specs.Rules.{pay}
 use Rattle.machine.specs.Rules.{Payment as Pays}
 use Rattle.machine.specs.Machine.{Order, answer, shared, setClock, order, step}
 use Rattle.machine.specs.Real.{lmsVerdict, realStep}
-use Rattle.machine.specs.Ledger.{Entry, Event, Paid, accepted, ofChannel, sum, paid, strings, clock}
+use Rattle.machine.specs.Ledger.{Entry, Event, accepted, ofChannel, sum, strings, clock}
 use Rattle.machine.specs.declared.state.Book.{Book}
 use Rattle.machine.specs.declared.answers.Answer.{Answer}
 use Rattle.machine.specs.declared.answers.Stepped.{Stepped}
-use Rattle.machine.specs.declared.units.Cents.{Cents}
 use Rattle.machine.proofs.RightTurns.{right-turns}
-use Rattle.journal.specs.Runs.{Done, nextOf, turnedOf, runOf}
+use Rattle.payments.specs.declared.lists.Payment.{Payment}
+use Rattle.payments.specs.Payments.{payment}
+use Rattle.journal.specs.Runs.{nextOf, turnedOf, runOf}
 use Rattle.journal.specs.Divided.{divided, told}
 use Rattle.journal.specs.declared.lines.Line.{Line}
 use Rattle.journal.specs.Calls.{Call, called}
 use Rattle.journal.proofs.Called.{journal-demand}
 use Rattle.journal.proofs.Turning.{fits, ahead, command, line, rest, with-lines, Claim, AtStop, AtTurn, by-turns}
-use Rattle.payments.specs.declared.lists.Payment.{Payment}
-use Rattle.payments.specs.Payments.{payment}
 use Rattle.bank.specs.Collected.{above, paidIn, collected}
-use Rattle.bank.specs.AddsUp.{paidTo, paidToIn, sides, answered, AddsUp, CollectedAddsUp, ClosedSplit}
+use Rattle.bank.specs.AddsUp.{paidTo, paidToIn, CollectedAddsUp, ClosedSplit}
 use Rattle.bank.proofs.Commands.{Known, known, collected-stop, collected-go}
 
 -- ---- sums

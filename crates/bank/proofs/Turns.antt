@@ -8,21 +8,19 @@ use mathlib.Core.List.{List, [], _∷_, _++_, map}
 use borrow.Author.Tests.{eq-eqb, ne-eqb}
 use lib.Dec.{eqb, leb}
 use lib.ListN.{length, drop, getD, set, length-map, length-append}
-use Rattle.wire.specs.Parts.{pasted}
 use Rattle.wire.specs.Numbers.{u16At}
 use Rattle.wire.proofs.Pasting.{pasted-none, length-pasted, pasted-more}
 use Rattle.machine.specs.Format.{opcode, place}
+use Rattle.payments.specs.declared.lists.Payment.{Payment}
+use Rattle.payments.specs.Payments.{payment, listed}
+use Rattle.payments.specs.Answers.{accepted, refused}
+use Rattle.payments.proofs.Listing.{pasted-set}
 use Rattle.journal.specs.Runs.{nextOf, aheadOf}
 use Rattle.journal.specs.declared.following.Ahead.{Ahead}
 use Rattle.journal.specs.declared.lines.Line.{Line}
-use Rattle.payments.specs.declared.lists.Payment.{Payment}
 use Rattle.bank.specs.declared.walking.Walk.{Walk}
-use Rattle.bank.specs.declared.walking.Turn.{Turn}
-use Rattle.payments.specs.Payments.{payment, listed}
 use Rattle.bank.specs.Collected.{above, paidIn}
-use Rattle.payments.specs.Answers.{accepted, refused}
 use Rattle.bank.specs.Walks.{begun, going, ended, atEnd, turnOf, storedBy}
-use Rattle.payments.proofs.Listing.{pasted-set}
 
 -- ---- what comes next
 

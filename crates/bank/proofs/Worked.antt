@@ -4,9 +4,9 @@ use Rattle.wire.specs.Numbers.{u16At}
 use Rattle.wire.specs.Parts.{pasted}
 use Rattle.machine.specs.Checks.{ask}
 use Rattle.machine.specs.Format.{size}
-use Rattle.journal.specs.Runs.{nextBy}
 use Rattle.payments.specs.Payments.{listed}
 use Rattle.payments.specs.Answers.{refusalOf, filled}
+use Rattle.journal.specs.Runs.{nextBy}
 use Rattle.bank.specs.Collected.{above, paidIn, collected}
 use Rattle.bank.specs.Figures.{Collects}
 

@@ -8,11 +8,11 @@ use lib.ListN.{length}
 use Rattle.machine.specs.Opening.{Opening, opening}
 use Rattle.machine.specs.Ledger.{Entry, Paid, sum, paid, strings, closed, split}
 use Rattle.machine.specs.declared.state.Book.{Book}
+use Rattle.payments.specs.declared.lists.Payment.{Payment}
 use Rattle.journal.specs.Runs.{runOf}
 use Rattle.journal.specs.Divided.{divided, told}
 use Rattle.journal.specs.declared.lines.Line.{Line}
 use Rattle.bank.specs.Collected.{collected}
-use Rattle.payments.specs.declared.lists.Payment.{Payment}
 
 -- What a payment pays to a party; in channel n.
 abbrev pub paidTo : ℕ → Payment → ℕ

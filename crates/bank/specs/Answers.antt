@@ -4,8 +4,8 @@ use mathlib.Core.List.{List, [], _∷_}
 use lib.Dec.{leb}
 use lib.ListN.{length}
 use Rattle.machine.specs.Checks.{test}
-use Rattle.journal.specs.declared.lines.Line.{Line}
 use Rattle.payments.specs.Answers.{Filled, filled}
+use Rattle.journal.specs.declared.lines.Line.{Line}
 use Rattle.bank.specs.Collected.{collected}
 
 abbrev pub collectOf : List ℕ → List Line → List (List ℕ) → Filled

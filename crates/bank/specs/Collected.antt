@@ -5,10 +5,10 @@ use mathlib.Core.List.{List, [], _∷_, _++_}
 use lib.Dec.{eqb}
 use lib.ListN.{length, take, drop}
 use Rattle.machine.specs.Format.{opcode, place}
-use Rattle.journal.specs.Runs.{nextOf}
-use Rattle.journal.specs.declared.lines.Line.{Line}
 use Rattle.payments.specs.Payments.{payment}
 use Rattle.payments.specs.declared.lists.Payment.{Payment}
+use Rattle.journal.specs.Runs.{nextOf}
+use Rattle.journal.specs.declared.lines.Line.{Line}
 
 -- A payment, where it is above zero.
 unfoldable pub above : Payment → List Payment

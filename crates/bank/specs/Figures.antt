@@ -1,17 +1,14 @@
 -- Document 02, No. 6: figures of collecting.
 use Prim.Native.Nat.{ℕ}
 use mathlib.Core.Path.{_≡_}
-use mathlib.Core.List.{List, [], _∷_, _++_, map}
-use lib.ListN.{drop, replicate}
+use mathlib.Core.List.{List, [], _∷_, _++_}
+use lib.ListN.{replicate}
 use Rattle.machine.specs.Book.{cents}
+use Rattle.payments.specs.Payments.{payment}
+use Rattle.payments.specs.Answers.{accepted, refused}
 use Rattle.journal.specs.declared.lines.Line.{Line}
-use Rattle.payments.specs.Payments.{payment, listed}
 use Rattle.bank.specs.Collected.{collected}
-use Rattle.payments.specs.Packed.{packed, entry, written}
-use Rattle.payments.specs.Answers.{accepted, refused, writeOf, readOf}
 use Rattle.bank.specs.Answers.{collectOf}
-use Rattle.payments.specs.BankLines.{got}
-use Rattle.payments.specs.declared.lists.Payment.{Payment}
 
 -- A list of so many entries.
 abbrev pub listLent : ℕ → List (List ℕ)

@@ -6,13 +6,13 @@ use lib.Dec.{leb}
 use lib.ListN.{length, drop}
 use Rattle.wire.specs.Parts.{part, pasted}
 use Rattle.machine.specs.Ledger.{noAnswer}
-use Rattle.journal.specs.Runs.{nextOf}
-use Rattle.journal.specs.declared.lines.Line.{Line}
 use Rattle.payments.specs.Payments.{listed}
-use Rattle.bank.specs.Collected.{paidIn}
 use Rattle.payments.specs.Answers.{accepted, refused}
 use Rattle.payments.specs.declared.lists.Counted.{Counted}
 use Rattle.payments.specs.declared.lists.Payment.{Payment}
+use Rattle.journal.specs.Runs.{nextOf}
+use Rattle.journal.specs.declared.lines.Line.{Line}
+use Rattle.bank.specs.Collected.{paidIn}
 use Rattle.bank.specs.declared.walking.Walk.{Walk}
 use Rattle.bank.specs.declared.walking.Turn.{Turn}
 

@@ -2,17 +2,17 @@
 use Prim.Native.Nat.{ℕ, _*_, _/_, _%_, _≤_}
 use mathlib.Core.Path.{_≡_, refl}
 use mathlib.Core.Bool.{Bool, true, false, true≢false, not, _&&_, _||_}
-use mathlib.Core.List.{List, [], _∷_, map}
+use mathlib.Core.List.{List, map}
 use borrow.Author.Tests.{ltb-true, ltb-false, le-leb, lt-leb}
 use lib.Dec.{eqb, leb, ltb}
 use lib.ListN.{length}
 use Rattle.wire.specs.Parts.{pasted}
 use Rattle.machine.specs.Book.{all}
-use Rattle.machine.specs.Checks.{Check, test, ask}
+use Rattle.machine.specs.Checks.{ask}
 use Rattle.payments.specs.declared.lists.Payment.{Payment}
 use Rattle.payments.specs.Payments.{listed}
 use Rattle.payments.specs.Packed.{written, entriesOf, paymentIn, good}
-use Rattle.payments.specs.Answers.{accepted, refused, refusalOf, writable, Written, writeOf, Filled, filled, readOf}
+use Rattle.payments.specs.Answers.{accepted, refused, refusalOf, writable, writeOf, filled, readOf}
 
 -- Writing.
 module _ (l : List Payment) (b : List ℕ) where

@@ -17,7 +17,7 @@ use Rattle.payments.specs.Packed.{entry, written, parted, entriesOf, pay
 use Rattle.payments.specs.Answers.{accepted, writable, Written, Filled, writeOf, readOf}
 use Rattle.payments.specs.BankLines.{wrote, got, BankLines}
 use Rattle.payments.proofs.Answering.{write-17, write-18, write-0, read-18, read-19, read-0}
-use Rattle.payments.proofs.Listing.{parted-length}
+use Rattle.payments.proofs.Listing.{read-length}
 use Rattle.payments.proofs.RoundTrips.{written-length, parted-written, all-back, all-written, listed-back}
 
 -- ---- a list that was written
@@ -40,9 +40,6 @@ module _ (l : List Payment) (b : List ℕ) (h : (writeOf l b) .answer .refusal �
 
 abbrev payments : List ℕ → List Payment
 payments x = map paymentIn (entriesOf x)
-
-payments-length : (x : List ℕ) → length (payments x) ≡ length x / 11
-payments-length x = length-map (entriesOf x) paymentIn ∙ parted-length (length x / 11) x
 
 module _ (x : List ℕ) (list : List (List ℕ)) where
   abbrev fits : Bool
@@ -79,7 +76,7 @@ module _ (x : List ℕ) (list : List (List ℕ)) where
     written-again : (b : List ℕ) → length x ≤ length b → writeOf (payments x) b ≡ record { answer = accepted (length (got (readOf x list))); buffer = pasted b 0 x }
     written-again b k =
         let n : length (got (readOf x list)) ≡ length (payments x) = ap length got-is ∙ length-map (payments x) listed in
-        write-0 (payments x) b (written-is .1) (le-leb (11 * length (payments x)) (length b) (omega (arith, whole, payments-length x)))
+        write-0 (payments x) b (written-is .1) (le-leb (11 * length (payments x)) (length b) (omega (arith, whole, read-length x)))
         ∙ λ i. record { answer = accepted (sym n i); buffer = pasted b 0 (written-is .0 i) }
 
 -- ---- the claims

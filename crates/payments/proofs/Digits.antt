@@ -4,7 +4,7 @@ use native.Mathlib.Nat.{mod-one, mod-lt, mod-eq-of-lt, mul-le-mul-right, pow-suc
 use native.Mathlib.Omega.{arith}
 use mathlib.Core.Path.{_≡_, refl, sym, ap, _∙_}
 use mathlib.Core.Bool.{Bool, true, _&&_}
-use mathlib.Core.List.{List, [], _∷_, _++_}
+use mathlib.Core.List.{List, [], _∷_}
 use borrow.Author.Tests.{leb-true, le-leb}
 use lib.Arith.{digits-div, digits-mod, mod-mul}
 use lib.Dec.{leb}

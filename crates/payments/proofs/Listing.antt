@@ -3,10 +3,10 @@ use Prim.Native.Nat.{ℕ, zero, suc, _+_, _*_, _/_, _≤_, _<_}
 use native.Mathlib.Nat.{add-zero}
 use native.Mathlib.Numerals.{add-one}
 use native.Mathlib.Omega.{arith}
-use mathlib.Core.Path.{_≡_, refl, sym, ap, _∙_}
+use mathlib.Core.Path.{_≡_, refl, ap, _∙_}
 use mathlib.Core.Bool.{Bool, _&&_}
 use mathlib.Core.List.{List, [], _∷_, _++_, map}
-use lib.ListN.{length, take, drop, getD, set, length-map, length-drop, drop-of-length-le}
+use lib.ListN.{length, take, drop, getD, set, drop-of-length-le, length-map}
 use lib.Seq.{take-all, drop-cons, drop-drop}
 use Rattle.wire.specs.Numbers.{bytes}
 use Rattle.wire.specs.Parts.{part, pasted}
@@ -14,7 +14,7 @@ use Rattle.wire.proofs.Pasting.{pasted-none, pasted-one}
 use Rattle.machine.specs.Book.{all}
 use Rattle.command.proofs.SoundBook.{all-more}
 use Rattle.payments.specs.declared.lists.Payment.{Payment}
-use Rattle.payments.specs.Packed.{digits, joined, packed, entry, written, parted, entriesOf}
+use Rattle.payments.specs.Packed.{digits, joined, packed, entry, written, parted, entriesOf, paymentIn}
 
 -- ---- tests of all, one by one
 
@@ -68,3 +68,6 @@ parted-at (suc n) zero x d h = refl
 parted-at (suc n) (suc i) x d h =
     parted-at n i (drop 11 x) d (omega arith)
     ∙ ap (take 11) (drop-drop (11 * i) 11 x ∙ let e : 11 + 11 * i ≡ 11 * suc i = omega arith in ap (λ (k : ℕ). drop k x) e)
+
+pub read-length : (x : List ℕ) → length (map paymentIn (entriesOf x)) ≡ length x / 11
+read-length x = length-map (entriesOf x) paymentIn ∙ parted-length (length x / 11) x

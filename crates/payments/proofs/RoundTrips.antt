@@ -1,26 +1,23 @@
 -- Entries there and back: what was written is read, and what is read was written.
-use Prim.Native.Nat.{ℕ, zero, suc, _+_, _*_, _/_, _%_, _^_, _≤_, _<_}
+use Prim.Native.Nat.{ℕ, zero, suc, _+_, _*_, _≤_}
 use native.Mathlib.Nat.{mod-eq-of-lt}
 use native.Mathlib.Omega.{arith}
 use mathlib.Core.Path.{_≡_, refl, sym, ap, _∙_}
-use mathlib.Core.Bool.{Bool, true, false, not, cond, true≢false, _&&_, _||_}
+use mathlib.Core.Bool.{Bool, true, false, not, _&&_}
 use mathlib.Core.List.{List, [], _∷_, _++_, map}
-use borrow.Author.Tests.{leb-true, le-leb, eqb-true, eqb-false, ne-eqb, not-true, not-false}
+use borrow.Author.Tests.{leb-true, le-leb, eqb-true, not-true}
 use lib.Dec.{eqb, leb}
-use lib.ListN.{length, take, drop, getD, length-append, length-map, length-take, length-drop, take-append-drop}
-use lib.Seq.{take-at, drop-at, getD-at, drop-cons, take-suc, take-all, take-length, length-take-le}
+use lib.ListN.{length, take, drop, getD, length-append, length-drop, take-append-drop}
+use lib.Seq.{take-at, drop-at, getD-at, drop-cons, take-suc, take-all, length-take-le}
 use Rattle.wire.specs.Numbers.{bytes, u16At}
-use Rattle.wire.specs.Parts.{pasted}
 use Rattle.wire.proofs.Laws.{both, and-both, and-make}
-use Rattle.wire.proofs.Pasting.{take-pasted}
 use Rattle.machine.specs.Book.{all}
 use Rattle.payments.specs.declared.lists.Payment.{Payment}
 use Rattle.payments.specs.Payments.{payment, isParty, listed, paymentOf}
-use Rattle.payments.specs.Packed.{digits, spelled, joined, halves, packed, entry, written, parted, entriesOf, amountHalves, amountIn, paymentIn, isDigit, isPacked, good}
-use Rattle.payments.specs.Answers.{accepted, writable, Filled, writeOf, readOf}
-use Rattle.payments.proofs.Answering.{write-17, write-18, write-0, read-18, read-19, read-0}
+use Rattle.payments.specs.Packed.{digits, spelled, joined, halves, packed, entry, written, parted, amountHalves, amountIn, paymentIn, isDigit, isPacked, good}
+use Rattle.payments.specs.Answers.{writable}
 use Rattle.payments.proofs.Digits.{digits-length, digits-are, spelled-digits, spelled-below, digits-spelled, joined-halves, isHalf, halves-joined}
-use Rattle.payments.proofs.Listing.{entry-length, parted-length}
+use Rattle.payments.proofs.Listing.{entry-length}
 
 -- ---- tests that said yes
 

@@ -4,7 +4,7 @@ use mathlib.Core.Path.{_≡_}
 use mathlib.Core.List.{List, [], _∷_, _++_, map}
 use lib.ListN.{drop, replicate}
 use Rattle.payments.specs.Payments.{payment, listed}
-use Rattle.payments.specs.Packed.{packed, entry, written}
+use Rattle.payments.specs.Packed.{packed}
 use Rattle.payments.specs.Answers.{accepted, refused, writeOf, readOf}
 use Rattle.payments.specs.BankLines.{got}
 use Rattle.payments.specs.declared.lists.Payment.{Payment}

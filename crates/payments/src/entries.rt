@@ -45,6 +45,7 @@ fn number_of(b: u8) -> u64
     (b / 16 * 10 + b % 16) as u64
 }
 
+// The high half of a byte.
 fn high_half(b: u8) -> u64
     ensures { λ r. ⌜ (r ≡ b / 16) × (r ≤ 15) ⌝ }
 {
@@ -79,7 +80,7 @@ pub fn payment_at(bytes: &[u8], at: usize) -> Payment
 }
 
 // Whether both halves of a byte are digits.
-fn two_digits(b: u8) -> bool
+fn are_digits(b: u8) -> bool
     ensures { λ r. ⌜ r ≡ (leb (b / 16) 9 && leb (b % 16) 9) ⌝ }
 {
     (b / 16 <= 9) & (b % 16 <= 9)
@@ -89,13 +90,13 @@ fn two_digits(b: u8) -> bool
 fn is_packed(e: [u8; 11]) -> bool
     ensures { λ r. ⌜ r ≡ isPacked e ⌝ }
 {
-    two_digits(e[3])
-        & two_digits(e[4])
-        & two_digits(e[5])
-        & two_digits(e[6])
-        & two_digits(e[7])
-        & two_digits(e[8])
-        & two_digits(e[9])
+    are_digits(e[3])
+        & are_digits(e[4])
+        & are_digits(e[5])
+        & are_digits(e[6])
+        & are_digits(e[7])
+        & are_digits(e[8])
+        & are_digits(e[9])
         & (e[10] / 16 <= 9)
         & (e[10] % 16 == 0x0C)
 }

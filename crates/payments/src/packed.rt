@@ -1,6 +1,6 @@
 // Amounts in packed decimal: fifteen digits, two in a byte, and C in the last half.
 ghost use mathlib.Core.Path.{_≡_};
-ghost use Prim.Native.Nat.{_+_, _*_, _/_, _%_, _<_};
+ghost use Prim.Native.Nat.{_+_, _*_, _/_, _%_};
 ghost use Rattle.payments.specs.Packed.{packed};
 
 // The tens and the ones of x, each in half a byte.

@@ -1,5 +1,5 @@
 -- `bank::lines::line_at` meets its contract, by a walk of its MIR: the slice is looked into, the line is taken out of the row, read whole, and put back. Assumes nothing.
-use mathlib.Core.Path.{_≡_, refl, sym}
+use mathlib.Core.Path.{refl, sym}
 use Prim.Native.Nat.{ℕ, _<_, _^_, _*_}
 use native.Mathlib.Omega.{arith}
 use mathlib.Core.List.{List, [], _∷_}

@@ -1,14 +1,12 @@
 use Prim.Native.Nat.{ℕ, _+_, _≤_, _<_}
 use native.Mathlib.Omega.{arith}
-use mathlib.Core.Path.{_≡_, sym, ap, _∙_}
+use mathlib.Core.Path.{_≡_, sym}
 use mathlib.Core.Bool.{Bool, true}
-use mathlib.Core.List.{List}
 use borrow.Author.Needs.{needs}
 use borrow.Author.Tests.{not-true, not-false}
-use lib.ListN.{length, set}
+use lib.ListN.{length}
 use Rattle.payments.specs.declared.lists.Payment.{Payment}
 use Rattle.bank.specs.Collected.{above}
-use Rattle.bank.specs.Walks.{storedBy}
 use Rattle.bank.proofs.Turns.{none-above, one-above, stored-none, stored-one, counted-only}
 use Rattle.bank.proofs.walking.put.Statement.{statement}
 use Rattle.bank.proofs.walking.put.Tie as tie

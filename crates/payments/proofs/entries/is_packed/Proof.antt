@@ -4,7 +4,7 @@ use Rattle.payments.proofs.entries.is_packed.Statement.{statement}
 use Rattle.payments.proofs.entries.is_packed.Tie as tie
 
 returns : tie.Need-returns
-returns c = is-packed _ (search needs) _ _ _ _ _ _ _ (c .before .before .before .before .before .before .two-digits .ensures) (c .before .before .before .before .before .two-digits2 .ensures) (c .before .before .before .before .two-digits3 .ensures) (c .before .before .before .two-digits4 .ensures) (c .before .before .two-digits5 .ensures) (c .before .two-digits6 .ensures) (c .two-digits7 .ensures)
+returns c = is-packed _ (search needs) _ _ _ _ _ _ _ (c .before .before .before .before .before .before .are-digits .ensures) (c .before .before .before .before .before .are-digits2 .ensures) (c .before .before .before .before .are-digits3 .ensures) (c .before .before .before .are-digits4 .ensures) (c .before .before .are-digits5 .ensures) (c .before .are-digits6 .ensures) (c .are-digits7 .ensures)
 
 pub is-packed-spec : {M : Type 1} → statement M
 is-packed-spec =

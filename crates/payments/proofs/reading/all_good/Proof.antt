@@ -1,5 +1,5 @@
 -- After i turns the flag says whether the first i entries are good.
-use Prim.Native.Nat.{_+_, _*_, _/_, _-_, _≤_}
+use Prim.Native.Nat.{_/_, _-_, _≤_}
 use native.Mathlib.Omega.{arith}
 use mathlib.Core.Path.{_≡_, refl, sym, ap, _∙_}
 use mathlib.Core.List.{[]}

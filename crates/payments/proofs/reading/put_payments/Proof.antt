@@ -1,5 +1,5 @@
 -- After i turns the payments of the entries from i on are still to be stored.
-use Prim.Native.Nat.{ℕ, _+_, _*_, _/_, _-_, _≤_}
+use Prim.Native.Nat.{ℕ, _+_, _/_, _-_, _≤_}
 use native.Mathlib.Omega.{arith}
 use mathlib.Core.Path.{_≡_, refl, sym, ap, _∙_}
 use mathlib.Core.List.{List, [], _∷_, map}
@@ -8,15 +8,12 @@ use lib.ListN.{length, drop, getD, length-map, drop-of-length-le}
 use Rattle.wire.proofs.Pasting.{Towards, at-first, and-then, at-last}
 use Rattle.payments.specs.Payments.{listed}
 use Rattle.payments.specs.Packed.{entriesOf, paymentIn}
-use Rattle.payments.proofs.Listing.{pasted-set, drop-next, getD-map, parted-length, parted-at}
+use Rattle.payments.proofs.Listing.{pasted-set, drop-next, getD-map, parted-length, parted-at, read-length}
 use Rattle.payments.proofs.reading.put_payments.Statement.{statement}
 use Rattle.payments.proofs.reading.put_payments.Tie as tie
 
 abbrev payments : List ℕ → List (List ℕ)
 payments x = map listed (map paymentIn (entriesOf x))
-
-read-length : (x : List ℕ) → length (map paymentIn (entriesOf x)) ≡ length x / 11
-read-length x = length-map (entriesOf x) paymentIn ∙ parted-length (length x / 11) x
 
 payments-length : (x : List ℕ) → length (payments x) ≡ length x / 11
 payments-length x = length-map (map paymentIn (entriesOf x)) listed ∙ read-length x

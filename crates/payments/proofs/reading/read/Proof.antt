@@ -1,11 +1,9 @@
 use Prim.Native.Nat.{_/_, _%_}
 use mathlib.Core.Path.{refl, sym, _∙_}
-use mathlib.Core.List.{map}
 use borrow.Author.Needs.{needs}
 use borrow.Author.Tests.{not-true, not-false}
-use lib.ListN.{length, length-map}
-use Rattle.payments.specs.Packed.{entriesOf, paymentIn}
-use Rattle.payments.proofs.Listing.{parted-length}
+use lib.ListN.{length}
+use Rattle.payments.proofs.Listing.{read-length}
 use Rattle.payments.proofs.Answering.{read-18, read-19, read-0, no-room, has-room}
 use Rattle.payments.proofs.reading.read.Statement.{statement}
 use Rattle.payments.proofs.reading.read.Tie as tie
@@ -33,7 +31,7 @@ returns-3 : tie.Need-returns-3
 returns-3 c =
     let a = c .before .before .before .before .before .before .before .before .args in
     let x = a .bytes .now in
-    let n = length-map (entriesOf x) paymentIn ∙ parted-length (length x / 11) x in
+    let n = read-length x in
     rw (
       read-0 x (a .list .now) ((has-room (length x % 11) (length x / 11) (length (a .list .now)) (c .before .before .before .before .before .before .if1 .left)) .0)
           (sym (c .before .before .before .before .before .all-good .ensures) ∙ not-false _ (c .before .before .before .before .if2 .left)),

@@ -1,11 +1,10 @@
 -- After i turns the flag says whether the first i payments can be written.
-use Prim.Native.Nat.{_+_, _-_, _≤_}
+use Prim.Native.Nat.{ℕ, _-_, _≤_}
 use native.Mathlib.Omega.{arith}
 use mathlib.Core.Path.{_≡_, refl, ap, _∙_}
 use mathlib.Core.Bool.{Bool}
 use mathlib.Core.List.{List, []}
 use borrow.Author.Needs.{needs}
-use Prim.Native.Nat.{ℕ}
 use lib.ListN.{length, take}
 use Rattle.machine.specs.Book.{all}
 use Rattle.payments.specs.Payments.{paymentOf}
