@@ -84,7 +84,6 @@ fn at_end(commands: &[u8], lines: usize, room: usize, walk: Walk) -> Turn
 
 // With so many lines, and room in the list for so many payments.
 pub fn turn_of(commands: &[u8], lines: usize, room: usize, walk: Walk) -> Turn
-    requires { ⌜ (walk .at ≤ length (now commands)) × (walk .line ≤ lines) ⌝ }
     ensures { λ r. ⌜ r ≡ turnOf (now (commands .entry)) lines room walk ⌝ }
 {
     let ahead = next(commands, walk.at, walk.line, lines);

@@ -1,8 +1,8 @@
 // What comes next in a journal.
 use arbiter::size_of;
 ghost use mathlib.Core.Path.{_≡_};
-ghost use Prim.Native.Nat.{_-_, _≤_};
-ghost use lib.ListN.{length, drop};
+ghost use Prim.Native.Nat.{_-_};
+ghost use lib.ListN.{drop};
 ghost use Rattle.journal.specs.Runs.{nextOf, aheadOf};
 
 // A command that ends at `end`, where `goes`, or else the cause to stop.
@@ -14,24 +14,23 @@ pub struct Ahead {
 
 // The run stops at the first of these: no bytes left (0), no line left (13), first byte unknown (1), fewer bytes than the command needs (2).
 pub fn next(commands: &[u8], at: usize, n: usize, room: usize) -> Ahead
-    requires { ⌜ (at ≤ length (now commands)) × (n ≤ room) ⌝ }
     ensures { λ r. ⌜ r ≡ aheadOf at (nextOf (drop at (now (commands .entry))) (room - n)) ⌝ }
 {
-    let left = commands.len() - at;
-    if left == 0 {
+    if commands.len() <= at {
         return Ahead {
             goes: false,
             cause: 0,
             end: at,
         };
     }
-    if room == n {
+    if room <= n {
         return Ahead {
             goes: false,
             cause: 13,
             end: at,
         };
     }
+    let left = commands.len() - at;
     let size = size_of(commands[at]);
     if size == 0 {
         return Ahead {

@@ -212,9 +212,9 @@ module _ {M : Type 1} (𝓤 : URA M) (H : Heap 𝓤) (A : Atoms 𝓤) (W : Given
     abbrev to-turn : St → TurnC .Ghost
     to-turn z = (((κ, tt), (q, tt), tt, (s, (m, (n₀, (z .base .walk, tt)))), (sv ∷ [], (vint w64 m ∷ [], (vint w64 n₀ ∷ [], (walk-val (z .base .walk) ∷ [], tt))))), tt)
 
-    goes-turn : (z : St) → ent 𝓤 (⋆ 𝓤 H A (‵ OwnS ∷ ‵ (flft κ q) ∷ [])) (TurnC .pre (to-turn z))
+    goes-turn : (z : St) → ent 𝓤 (⋆ 𝓤 H A (‵ OwnS ∷ ‵ (flft κ q) ∷ [])) (onEntry 𝓤 H A turn.signature (κ, tt) (q, tt) (to-turn z .0 .3) (to-turn z .0 .4))
     goes-turn z =
-        qed W (‵ OwnS ∷ ‵ (flft κ q) ∷ []) ∵ says ! (z .base .here .at-ok, z .base .here .line-ok) $ nothing ! $ owns-walk ! (z .base .walk) (z .is) $ fjoin ! $ owns-usize ! n₀ (refl, room .0) $ fjoin ! $
+        qed W (‵ OwnS ∷ ‵ (flft κ q) ∷ []) ∵ nothing ! $ owns-walk ! (z .base .walk) (z .is) $ fjoin ! $ owns-usize ! n₀ (refl, room .0) $ fjoin ! $
         owns-usize ! m (refl, m-room .0) $ fjoin ! $ move ! (1 ∷ 0 ∷ []) $ fjoin ! $ nothing ! $ move ! (2 ∷ 0 ∷ []) $ join ! $ done !
 
     abbrev Says : St → Turn → Type 0
@@ -313,7 +313,7 @@ module _ {M : Type 1} (𝓤 : URA M) (H : Heap 𝓤) (A : Atoms 𝓤) (W : Given
             assigns ! (of-opd ! (load ! (from ! (fld ! refl (stop !))) (look-in ! 26 (sub ! 1 refl (whole !))))) (from ! (stop !)) (init ! 12 refl (tt, record { fits = room .0 })) $
             -- The call of `turn_of`.
             move ! (1 ∷ 0 ∷ []) $ slice-twice ! (named 0) κ s $ move ! (0 ∷ 2 ∷ []) $
-            use2 W (raw (TurnC .pre (to-turn z))) (goes-turn z) $
+            use2 W (raw (onEntry 𝓤 H A turn.signature (κ, tt) (q, tt) (to-turn z .0 .3) (to-turn z .0 .4))) (goes-turn z) $ nothing ! $ move ! (1 ∷ 0 ∷ []) $ use2 W (raw (TurnC .pre (to-turn z))) (id⊢ 𝓤 _) $
             calls-at ! fm TurnC known-turn (to-turn z) (and-then ! (load ! (from ! (stop !)) (look ! 30 refl)) (and-then ! (load ! (from ! (stop !)) (look ! 14 refl)) (and-then ! (load ! (from ! (stop !)) (look ! 12 refl)) (and-then ! (load ! (from ! (stop !)) (look ! 24 refl)) (no-more !))))) (λ w.
             use1 W (later (some (λ (t : Turn). ((‵ (flft κ q) ⊛ ‵ ftrue) ⊛ ‵ (U.the-row .own t (w ∷ []))) ⊛ raw (ensured 𝓤 H A turn.ended (turn.clauses 𝓤 H A at-mem run) (κ, tt) (s, (m, (n₀, (z .base .walk, tt)))) tt t)))) (id⊢ 𝓤 _) $ await ! tt $ pick ! (λ t.
             split ! $ move ! (1 ∷ []) $ use1 W (raw (fact 𝓤 (Says z t))) (turn-said z t) $ heard ! (Says z t) (λ e. split ! $ split ! $ move ! (1 ∷ []) $ drop ! $

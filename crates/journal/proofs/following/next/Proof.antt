@@ -8,7 +8,7 @@ use Rattle.journal.proofs.following.next.Statement.{statement}
 use Rattle.journal.proofs.following.next.Tie as tie
 
 returns : tie.Need-returns
-returns c = no-bytes _ _ _ (c .if1 .taken)
+returns c = let a = c .before .before .args in no-bytes (a .commands .now) (a .at) (a .room - a .n) (omega arith)
 
 returns-2 : tie.Need-returns-2
 returns-2 c = let a = c .before .before .before .args in no-line (a .commands .now) (a .at) (a .room - a .n) (λ e. omega arith) (omega arith)
@@ -34,4 +34,4 @@ returns-5 c =
     ∙ goes-on (a .commands .now) (a .at) (a .room - a .n) (λ z. omega arith) (λ z. omega arith) (λ z. omega (arith, e)) (omega (arith, e))
 
 pub next-spec : {M : Type 1} → statement M
-next-spec = tie.close (tie.spec (λ c. search needs) returns returns-2 (λ c. search needs) (λ c κs. search needs) returns-3 returns-4 (λ c. search needs) returns-5)
+next-spec = tie.close (tie.spec returns returns-2 (λ c. search needs) (λ c. search needs) (λ c κs. search needs) returns-3 returns-4 (λ c. search needs) returns-5)

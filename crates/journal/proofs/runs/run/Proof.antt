@@ -175,9 +175,9 @@ module _ {M : Type 1} (𝓤 : URA M) (H : Heap 𝓤) (A : Atoms 𝓤) (W : Given
     abbrev to-next : St → NextC .Ghost
     to-next z = (((κ′, tt), (q′, tt), tt, (s, (z .at, (z .n, (m, tt)))), (sv ∷ [], (vint w64 (z .at) ∷ [], (vint w64 (z .n) ∷ [], (vint w64 m ∷ [], tt))))), tt)
 
-    goes-next : (z : St) → ent 𝓤 (⋆ 𝓤 H A (‵ OwnS ∷ ‵ (flft κ′ q′) ∷ [])) (NextC .pre (to-next z))
+    goes-next : (z : St) → ent 𝓤 (⋆ 𝓤 H A (‵ OwnS ∷ ‵ (flft κ′ q′) ∷ [])) (onEntry 𝓤 H A next.signature (κ′, tt) (q′, tt) (to-next z .0 .3) (to-next z .0 .4))
     goes-next z =
-        qed W (‵ OwnS ∷ ‵ (flft κ′ q′) ∷ []) ∵ says ! (z .at-ok, z .n-ok) $ nothing ! $ owns-usize ! m (refl, room .0) $ fjoin ! $ owns-usize ! (z .n) (refl, n-fits z) $ fjoin ! $ owns-usize ! (z .at) (refl, at-fits z) $ fjoin ! $
+        qed W (‵ OwnS ∷ ‵ (flft κ′ q′) ∷ []) ∵ nothing ! $ owns-usize ! m (refl, room .0) $ fjoin ! $ owns-usize ! (z .n) (refl, n-fits z) $ fjoin ! $ owns-usize ! (z .at) (refl, at-fits z) $ fjoin ! $
         move ! (1 ∷ 0 ∷ []) $ fjoin ! $ nothing ! $ move ! (2 ∷ 0 ∷ []) $ join ! $ done !
 
     next-said : (z : St) (r : Ahead) → ent 𝓤 (ensured 𝓤 H A next.ended (next.clauses 𝓤 H A at-mem run) (κ′, tt) (s, (z .at, (z .n, (m, tt)))) tt r) (fact 𝓤 (AheadIs z r))
@@ -270,7 +270,7 @@ module _ {M : Type 1} (𝓤 : URA M) (H : Heap 𝓤) (A : Atoms 𝓤) (W : Given
             assigns ! (of-opd ! (load ! (from ! (fld ! refl (stop !))) (look-in ! 30 (sub ! 1 refl (whole !))))) (from ! (stop !)) (init ! 16 refl (tt, record { fits = room .0 })) $
             -- The call of `next`.
             move ! (1 ∷ 0 ∷ []) $ slice-twice ! (named 1) κ′ s $ move ! (0 ∷ 2 ∷ []) $
-            use2 W (raw (NextC .pre (to-next z))) (goes-next z) $
+            use2 W (raw (onEntry 𝓤 H A next.signature (κ′, tt) (q′, tt) (to-next z .0 .3) (to-next z .0 .4))) (goes-next z) $ nothing ! $ move ! (1 ∷ 0 ∷ []) $ use2 W (raw (NextC .pre (to-next z))) (id⊢ 𝓤 _) $
             calls-at ! fm NextC known-next (to-next z) (and-then ! (load ! (from ! (stop !)) (look ! 32 refl)) (and-then ! (load ! (from ! (stop !)) (look ! 28 refl)) (and-then ! (load ! (from ! (stop !)) (look ! 26 refl)) (and-then ! (load ! (from ! (stop !)) (look ! 16 refl)) (no-more !))))) (λ w.
             use1 W (later (some (λ (r : Ahead). ((‵ (flft κ′ q′) ⊛ ‵ ftrue) ⊛ ‵ (X.the-row .own r (w ∷ []))) ⊛ raw (ensured 𝓤 H A next.ended (next.clauses 𝓤 H A at-mem run) (κ′, tt) (s, (z .at, (z .n, (m, tt)))) tt r)))) (id⊢ 𝓤 _) $ await ! tt $ pick ! (λ r.
             split ! $ move ! (1 ∷ []) $ use1 W (raw (fact 𝓤 (AheadIs z r))) (next-said z r) $ heard ! (AheadIs z r) (λ e. split ! $ split ! $ move ! (1 ∷ []) $ drop ! $
