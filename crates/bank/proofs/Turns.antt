@@ -4,7 +4,7 @@ use native.Mathlib.Nat.{sub-zero, zero-add}
 use native.Mathlib.Omega.{arith}
 use mathlib.Core.Path.{_≡_, refl, sym, ap, _∙_}
 use mathlib.Core.Bool.{Bool, true, false, cond}
-use mathlib.Core.List.{List, [], _∷_, _++_, map}
+use mathlib.Core.List.{List, [], _∷_, _++_, map, map-append}
 use borrow.Author.Tests.{eq-eqb, ne-eqb}
 use lib.Dec.{eqb, leb}
 use lib.ListN.{length, drop, getD, set, length-map, length-append}
@@ -82,10 +82,6 @@ pub counted-only : (l : List (List ℕ)) (at : ℕ) (ps : List Payment) → stor
 unfolding storedBy
 counted-only l at ps = refl
 
-map-append : (ps qs : List Payment) → map listed (ps ++ qs) ≡ map listed ps ++ map listed qs
-map-append [] qs = refl
-map-append (p ∷ ps) qs = ap (λ (l : List (List ℕ)). listed p ∷ l) (map-append ps qs)
-
 pub stored-length : (b : Bool) (l : List (List ℕ)) (at : ℕ) (ps : List Payment) → (b ≡ true → at + length ps ≤ length l) → length (storedBy b l at ps) ≡ length l
 unfolding storedBy
 stored-length true l at ps h = length-pasted l at (map listed ps) (omega (arith, h refl, length-map ps listed))
@@ -96,7 +92,7 @@ pub stored-more : (b : Bool) (l : List (List ℕ)) (at : ℕ) (ps qs : List Paym
 unfolding storedBy
 stored-more true l at ps qs h =
     let n : length (map listed ps) ≡ length ps = length-map ps listed in
-    rw (map-append ps qs) (rw n at (pasted-more l at (map listed ps) (map listed qs) (omega (arith, h refl))))
+    rw (map-append listed ps qs) (rw n at (pasted-more l at (map listed ps) (map listed qs) (omega (arith, h refl))))
 stored-more false l at ps qs h = refl
 
 -- ---- what a command and its line pay

@@ -37,11 +37,6 @@ pasted-set d at e h = rw (pasted-none d at, add-zero) at (pasted-one d at [] e (
 pub drop-next : {A : Type 0} (l : List A) (i : ℕ) (d : A) → i < length l → drop i l ≡ (getD l i d ∷ []) ++ drop (i + 1) l
 drop-next l i d h = rw add-one (drop-cons l i d h)
 
-pub getD-map : {A B : Type 0} (f : A → B) (l : List A) (i : ℕ) (d : A) (d′ : B) → i < length l → getD (map f l) i d′ ≡ f (getD l i d)
-getD-map f [] i d d′ h = absurd (omega arith)
-getD-map f (x ∷ l) zero d d′ h = refl
-getD-map f (x ∷ l) (suc i) d d′ h = getD-map f l i d d′ (omega arith)
-
 -- ---- entries
 
 pub entry-length : (p : Payment) → length (entry p) ≡ 11

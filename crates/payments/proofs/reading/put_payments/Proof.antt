@@ -4,11 +4,11 @@ use native.Mathlib.Omega.{arith}
 use mathlib.Core.Path.{_≡_, refl, sym, ap, _∙_}
 use mathlib.Core.List.{List, [], _∷_, map}
 use borrow.Author.Needs.{needs}
-use lib.ListN.{length, drop, getD, length-map, drop-of-length-le}
+use lib.ListN.{length, drop, getD, length-map, drop-of-length-le, List·getD-map}
 use Rattle.wire.proofs.Pasting.{Towards, at-first, and-then, at-last}
 use Rattle.payments.specs.Payments.{listed}
 use Rattle.payments.specs.Packed.{entriesOf, paymentIn}
-use Rattle.payments.proofs.Listing.{pasted-set, drop-next, getD-map, parted-length, parted-at, read-length}
+use Rattle.payments.proofs.Listing.{pasted-set, drop-next, parted-at, read-length}
 use Rattle.payments.proofs.reading.put_payments.Statement.{statement}
 use Rattle.payments.proofs.reading.put_payments.Tie as tie
 
@@ -34,11 +34,11 @@ loop-again c =
     let x = a .bytes .now in
     let n = length x / 11 in
     let k = payments-length x in
-    let e : getD (payments x) i [] ≡ c .listed .result =
-    getD-map listed (map paymentIn (entriesOf x)) i (paymentIn []) [] (omega (arith, read-length x))
-    ∙ ap listed (getD-map paymentIn (entriesOf x) i [] (paymentIn []) (omega (arith, parted-length n x)) ∙ ap paymentIn (parted-at n i x [] (omega arith)) ∙ sym (q .ensures))
+    let e : getD (payments x) i (listed (paymentIn [])) ≡ c .listed .result =
+    List·getD-map listed (map paymentIn (entriesOf x)) i (paymentIn [])
+    ∙ ap listed (List·getD-map paymentIn (entriesOf x) i [] ∙ ap paymentIn (parted-at n i x [] (omega arith)) ∙ sym (q .ensures))
     ∙ sym (c .listed .ensures) in
-    let u = drop-next (payments x) i [] (omega arith) in
+    let u = drop-next (payments x) i (listed (paymentIn [])) (omega arith) in
     let s = pasted-set (l .loop .list) i (c .listed .result) (omega (arith, l .loop .inv, l .before .before .pre)) in
     let w = and-then (a .list .now) 0 (payments x) (l .loop .list) _ _ (c .listed .result ∷ []) _ i (i + 1) (rw e at u) s refl (omega (arith, l .loop .inv, l .before .before .pre)) (l .loop .inv .3) in
     (refl, omega arith, omega (arith, w .0), w .1)

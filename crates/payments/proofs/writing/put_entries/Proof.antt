@@ -4,11 +4,11 @@ use native.Mathlib.Omega.{arith}
 use mathlib.Core.Path.{_≡_, refl, sym, _∙_}
 use mathlib.Core.List.{[], _++_, map}
 use borrow.Author.Needs.{needs}
-use lib.ListN.{length, drop, getD, length-map}
+use lib.ListN.{length, drop, getD, length-map, List·getD-map}
 use Rattle.wire.proofs.Pasting.{Towards, at-first, and-then, at-last}
 use Rattle.payments.specs.Payments.{paymentOf}
 use Rattle.payments.specs.Packed.{entry, written}
-use Rattle.payments.proofs.Listing.{written-next, written-none, entry-length, getD-map}
+use Rattle.payments.proofs.Listing.{written-next, written-none, entry-length}
 use Rattle.payments.proofs.writing.put_entries.Statement.{statement}
 use Rattle.payments.proofs.writing.put_entries.Tie as tie
 
@@ -28,7 +28,7 @@ loop-again c =
     let i = l .loop .i in
     let ps = map paymentOf (a .list .now) in
     let n = length-map (a .list .now) paymentOf in
-    let e : getD ps i (paymentOf []) ≡ q .result = getD-map paymentOf (a .list .now) i [] (paymentOf []) (omega arith) ∙ sym (q .ensures) in
+    let e : getD ps i (paymentOf []) ≡ q .result = List·getD-map paymentOf (a .list .now) i [] ∙ sym (q .ensures) in
     let x : written (drop i ps) ≡ entry (q .result) ++ written (drop (i + 1) ps) = rw e at (written-next ps i (paymentOf []) (omega (arith, n))) in
     let w = and-then (a .buffer .now) 0 (written ps) (l .loop .buffer) (y .last .0) _ (entry (q .result)) _ (11 * i) (11 * (i + 1)) x (y .ensures) (omega (arith, entry-length (q .result)))
     (omega (arith, l .loop .inv, l .before .before .pre)) (l .loop .inv .2) in
