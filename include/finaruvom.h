@@ -34,9 +34,9 @@ extern "C" {
 
 // The version that this header belongs to, and the number of the book's layout, which the mark of every book carries.
 #define FINARUVOM_VERSION_MAJOR 0
-#define FINARUVOM_VERSION_MINOR 15
+#define FINARUVOM_VERSION_MINOR 16
 #define FINARUVOM_VERSION_PATCH 0
-#define FINARUVOM_LAYOUT 4
+#define FINARUVOM_LAYOUT 5
 
 // Sizes in bytes, the number of channels, and those of a signer's leaves and places for nodes.
 #define FINARUVOM_ID_SIZE 16
@@ -49,9 +49,9 @@ extern "C" {
 #define FINARUVOM_CHANNEL_SIZE 192
 #define FINARUVOM_SETUP_SIZE 8
 #define FINARUVOM_BOOK_SIZE 12328
-#define FINARUVOM_SETTINGS_SIZE 4
-#define FINARUVOM_ANSWER_SIZE 24
-#define FINARUVOM_LINE_SIZE 24
+#define FINARUVOM_SETTINGS_SIZE 8
+#define FINARUVOM_ANSWER_SIZE 32
+#define FINARUVOM_LINE_SIZE 32
 #define FINARUVOM_READING_SIZE 72
 #define FINARUVOM_FOUND_SIZE 2
 #define FINARUVOM_RAN_SIZE 24
@@ -72,6 +72,9 @@ extern "C" {
 #define FINARUVOM_LONGEST_DELAY 2592000
 #define FINARUVOM_PLAIN_DELAY 86400
 #define FINARUVOM_DESK_DELAY 172800
+
+// The highest fee, in ten-thousandths of what the merchant is paid; a book of the plain opening has none, and the desk's settings have none.
+#define FINARUVOM_HIGHEST_FEE 1000
 
 // The largest amount of a bank line, in cents: fifteen digits.
 #define FINARUVOM_LARGEST_AMOUNT UINT64_C(999999999999999)
@@ -95,6 +98,7 @@ enum finaruvom_refusal {
     FINARUVOM_UNKNOWN = 1,         // no first byte, or it is no command
     FINARUVOM_LENGTH = 2,
     FINARUVOM_SETTINGS_DELAY = 14, // the default delay given at an opening is out of range
+    FINARUVOM_SETTINGS_FEE = 20,   // the fee given at an opening is above 1,000 ten-thousandths
     FINARUVOM_NO_LEAF = 15,        // the signer's leaves are all used
     FINARUVOM_TIME = 3,            // before the clock, or above 2^63 - 1
     FINARUVOM_CHANNEL = 4,         // not below 64
@@ -154,9 +158,10 @@ struct finaruvom_channel {
     struct finaruvom_leaves leaves;
 };
 
-// What a book keeps of its opening: the default delay, which a 0 in command 02 stands for.
+// What a book keeps of its opening: the default delay, which a 0 in command 02 stands for, and the fee, in ten-thousandths of each payment to a merchant.
 struct finaruvom_setup {
-    uint64_t delay;
+    uint32_t delay;
+    uint32_t fee;
 };
 
 struct finaruvom_book {
@@ -167,17 +172,21 @@ struct finaruvom_book {
     struct finaruvom_channel channels[FINARUVOM_CHANNELS];
 };
 
-// What an opening is given: the default delay. Start from the plain or the desk's settings: later versions may have more fields.
+// What an opening is given: the default delay, and the fee in ten-thousandths. Start from the plain or the desk's settings: later versions may have more
+// fields.
 struct finaruvom_settings {
     uint32_t delay;
+    uint32_t fee;
 };
 
-// What a command answers: what it paid to each side, the chain steps of its signature checks, and the refusal, or 0.
+// What a command answers: what it paid to each side, the chain steps of its signature checks, the refusal, or 0, and the fee. The merchant's figure is what he
+// gets, after the fee that the desk keeps of this payment; the customer pays no fee.
 struct finaruvom_answer {
     uint64_t customer;
     uint64_t merchant;
     uint32_t steps;
     uint32_t refusal;
+    uint64_t fee;
 };
 
 // One line of a run: the command's answer.
@@ -279,8 +288,8 @@ FINARUVOM_ASSERT(sizeof(struct finaruvom_signature) == sizeof(uint32_t) + FINARU
 struct finaruvom_versions finaruvom_version(void);
 
 // The layout. Its name carries the number and every program refers to it, so that one does not link with a library of another layout.
-uint32_t finaruvom_layout_4(void);
-FINARUVOM_KEPT static uint32_t (*const finaruvom_linked_layout)(void) = finaruvom_layout_4;
+uint32_t finaruvom_layout_5(void);
+FINARUVOM_KEPT static uint32_t (*const finaruvom_linked_layout)(void) = finaruvom_layout_5;
 
 // The SHA-256 digest of at most 65,536 bytes, and 0; of more, zeros and 2.
 // Duties: bytes not null, shared; digest not null, 32 bytes, alone; stack FINARUVOM_STACK_HASH.
@@ -296,10 +305,10 @@ FINARUVOM_CALL uint32_t finaruvom_check(const uint8_t *key, size_t key_n, const 
 // The whole length of the command that begins with this byte; 0 where it begins none. No duties.
 size_t finaruvom_size(uint8_t first);
 
-// What the plain opening is given: the default delay is FINARUVOM_PLAIN_DELAY. No duties.
+// What the plain opening is given: the default delay is FINARUVOM_PLAIN_DELAY, the fee 0. No duties.
 struct finaruvom_settings finaruvom_plain_settings(void);
 
-// What the desk gives for a new book: the default delay is FINARUVOM_DESK_DELAY. No duties.
+// What the desk gives for a new book: the default delay is FINARUVOM_DESK_DELAY, the fee 0: set the one that was agreed. No duties.
 struct finaruvom_settings finaruvom_desk_settings(void);
 
 // The plain opening: makes any lent book fresh, with the id and the plain settings, and answers 0; an id that is not 16 bytes long gives 2 and keeps
@@ -307,8 +316,8 @@ struct finaruvom_settings finaruvom_desk_settings(void);
 // Duties: book not null, aligned, alone; id not null, shared; stack FINARUVOM_STACK_OPEN.
 FINARUVOM_CALL uint32_t finaruvom_open(struct finaruvom_book *book, const uint8_t *id, size_t id_n);
 
-// The same with these settings: after the id, a default delay that is not FINARUVOM_SHORTEST_DELAY to FINARUVOM_LONGEST_DELAY gives 14 and keeps every
-// value.
+// The same with these settings: after the id, a default delay that is not FINARUVOM_SHORTEST_DELAY to FINARUVOM_LONGEST_DELAY gives 14, then a fee above
+// FINARUVOM_HIGHEST_FEE 20, and it keeps every value.
 // Duties: book not null, aligned, alone; id not null, shared; stack FINARUVOM_STACK_OPEN.
 FINARUVOM_CALL uint32_t finaruvom_open_with(struct finaruvom_book *book, const uint8_t *id, size_t id_n, struct finaruvom_settings settings);
 
@@ -344,7 +353,7 @@ FINARUVOM_CALL struct finaruvom_signature finaruvom_sign(struct finaruvom_signer
                                                          size_t message_n);
 
 // Collects the payments of a run, from its commands and its lines: each above zero, in the order of the commands, the customer's before the merchant's, with n
-// as the command has it. It goes through commands and lines side by side, whatever refusal a line shows, passes over 01 and its line, and ends where the run
+// as the command has it. The merchant's is what he gets, without the fee, which is a payment to neither. It goes through commands and lines side by side, whatever refusal a line shows, passes over 01 and its line, and ends where the run
 // would. A list that is too short gives 18 and keeps every entry; entries behind the last payment keep their content.
 // Duties: commands not null, shared; lines not null, lines_n of them, aligned, shared; list not null, list_n payments, aligned, alone; stack
 // FINARUVOM_STACK_BANK.

@@ -66,15 +66,14 @@ static size_t payments_of(const char *text) {
     return n;
 }
 
-// The lines of a text, and their number; each has a fee behind the steps, which no line has yet.
+// The lines of a text, and their number; the fee of a line is a payment to neither party.
 static size_t lines_of(const char *text) {
     size_t n = 0;
     while (*text != '-' && *text != '\0') {
         struct finaruvom_answer *a = &lines[n++].answer;
         int used = 0;
-        readable(n <= MOST && sscanf(text, "%" SCNu32 ",%" SCNu64 ",%" SCNu64 ",%" SCNu32 ",%*u%n", &a->refusal, &a->customer, &a->merchant, &a->steps,
-                                     &used) == 4);
-        readable(used != 0);
+        readable(n <= MOST && sscanf(text, "%" SCNu32 ",%" SCNu64 ",%" SCNu64 ",%" SCNu32 ",%" SCNu64 "%n", &a->refusal, &a->customer, &a->merchant,
+                                     &a->steps, &a->fee, &used) == 5);
         text += used + (text[used] == ';');
     }
     return n;
@@ -220,6 +219,7 @@ static const struct figure {
     {"collecting the customer before the merchant", "collect 0a00010a0001 0,7,5,0,0;0,5,7,0,0 4 -> 0 4 1:1:7;2:1:5;1:1:5;2:1:7"},
     {"collecting no payment of 0", "collect 0a00010a00020a0003 0,0,0,0,0;0,0,7,0,0;0,5,0,0,0 4 -> 0 2 2:2:7;1:3:5"},
     {"collecting 2^64 - 1", "collect 0a0001 0,18446744073709551615,1000000000000000,0,0 2 -> 0 2 1:1:18446744073709551615;2:1:1000000000000000"},
+    {"collecting no fee", "collect 0a00010a00020a0003 0,5,7,0,9;0,0,0,0,9;0,0,1,0,18446744073709551615 6 -> 0 3 1:1:5;2:1:7;2:3:1"},
     {"collecting up to an unknown byte", "collect 0a00010b0a0002 0,5,0,0,0;0,6,0,0,0;0,7,0,0,0 4 -> 0 1 1:1:5"},
     {"collecting up to a command cut short", "collect 0a00010a00 0,5,0,0,0;0,6,0,0,0 4 -> 0 1 1:1:5"},
     {"collecting into a list one too short", "collect 0a00010a0002 0,5,7,0,0;0,8,0,0,0 2 -> 18 0 -"},
@@ -278,7 +278,7 @@ static void every_command(void) {
     for (unsigned op = 1; op <= 10; op++) {
         commands[end] = (uint8_t)op, commands[end + 1] = 1, commands[end + 2] = (uint8_t)op;
         end += sizes[op - 1];
-        lines[op - 1] = (struct finaruvom_line){{.customer = op, .merchant = 100 + op}};
+        lines[op - 1] = (struct finaruvom_line){{.customer = op, .merchant = 100 + op, .fee = 200 + op}};
         if (op != 1) {
             payments[n++] = (struct finaruvom_payment){1, 256 + op, op};
             payments[n++] = (struct finaruvom_payment){2, 256 + op, 100 + op};
@@ -296,7 +296,7 @@ static void longest(void) {
     static struct finaruvom_payment wanted[PAYMENTS], found[PAYMENTS];
     for (size_t i = 0; i < SETTLES; i++) {
         commands[3 * i] = 10, commands[3 * i + 2] = i % 64;
-        paid[i] = (struct finaruvom_line){{.customer = i + 1, .merchant = FINARUVOM_LARGEST_AMOUNT - i}};
+        paid[i] = (struct finaruvom_line){{.customer = i + 1, .merchant = FINARUVOM_LARGEST_AMOUNT - i, .fee = i + 2}};
         wanted[2 * i] = (struct finaruvom_payment){1, i % 64, i + 1};
         wanted[2 * i + 1] = (struct finaruvom_payment){2, i % 64, FINARUVOM_LARGEST_AMOUNT - i};
     }

@@ -10,11 +10,11 @@ SIZE(party, 64); AT(party, key, 0); AT(party, deposit, 56);
 SIZE(leaves, 8); AT(leaves, first, 0); AT(leaves, second, 4);
 SIZE(channel, 192); AT(channel, customer, 0); AT(channel, merchant, 64); AT(channel, deadline, 128); AT(channel, kept, 136);
 AT(channel, delay, 144); AT(channel, status, 148); AT(channel, lock, 152); AT(channel, leaves, 184);
-SIZE(setup, 8); AT(setup, delay, 0);
+SIZE(setup, 8); AT(setup, delay, 0); AT(setup, fee, 4);
 SIZE(book, 12328); AT(book, mark, 0); AT(book, id, 8); AT(book, setup, 24); AT(book, clock, 32); AT(book, channels, 40);
-SIZE(settings, 4); AT(settings, delay, 0);
-SIZE(answer, 24); AT(answer, customer, 0); AT(answer, merchant, 8); AT(answer, steps, 16); AT(answer, refusal, 20);
-SIZE(line, 24); AT(line, answer, 0);
+SIZE(settings, 8); AT(settings, delay, 0); AT(settings, fee, 4);
+SIZE(answer, 32); AT(answer, customer, 0); AT(answer, merchant, 8); AT(answer, steps, 16); AT(answer, refusal, 20); AT(answer, fee, 24);
+SIZE(line, 32); AT(line, answer, 0);
 SIZE(reading, 72); AT(reading, total, 0); AT(reading, held, 8); AT(reading, deadline, 16); AT(reading, kept, 24);
 AT(reading, refusal, 32); AT(reading, status, 36); AT(reading, lock, 40);
 SIZE(found, 2); AT(found, some, 0); AT(found, channel, 1);
@@ -23,6 +23,8 @@ SIZE(payment, 24); AT(payment, party, 0); AT(payment, channel, 8); AT(payment, a
 SIZE(counted, 16); AT(counted, refusal, 0); AT(counted, payments, 8);
 _Static_assert(FINARUVOM_ENTRY_SIZE == 11, "entry");
 _Static_assert(FINARUVOM_LARGEST_AMOUNT == 999999999999999, "largest amount");
+_Static_assert(FINARUVOM_HIGHEST_FEE == 1000, "highest fee");
+_Static_assert(FINARUVOM_SETTINGS_FEE == 20, "refusal of a fee");
 SIZE(versions, 16); AT(versions, major, 0); AT(versions, minor, 4); AT(versions, patch, 8); AT(versions, layout, 12);
 SIZE(node, 32); AT(node, value, 0);
 SIZE(signer, 65628); AT(signer, key, 0); AT(signer, seed, 56); AT(signer, next, 88); AT(signer, nodes, 92);
@@ -35,10 +37,10 @@ FILLED(party, OF(party, key) + OF(party, deposit));
 FILLED(leaves, OF(leaves, first) + OF(leaves, second));
 FILLED(channel, OF(channel, customer) + OF(channel, merchant) + OF(channel, deadline) + OF(channel, kept) + OF(channel, delay) +
                     OF(channel, status) + OF(channel, lock) + OF(channel, leaves));
-FILLED(setup, OF(setup, delay));
+FILLED(setup, OF(setup, delay) + OF(setup, fee));
 FILLED(book, OF(book, mark) + OF(book, id) + OF(book, setup) + OF(book, clock) + OF(book, channels));
-FILLED(settings, OF(settings, delay));
-FILLED(answer, OF(answer, customer) + OF(answer, merchant) + OF(answer, steps) + OF(answer, refusal));
+FILLED(settings, OF(settings, delay) + OF(settings, fee));
+FILLED(answer, OF(answer, customer) + OF(answer, merchant) + OF(answer, steps) + OF(answer, refusal) + OF(answer, fee));
 FILLED(line, OF(line, answer));
 FILLED(reading, OF(reading, total) + OF(reading, held) + OF(reading, deadline) + OF(reading, kept) + OF(reading, refusal) +
                     OF(reading, status) + OF(reading, lock));
@@ -97,7 +99,8 @@ static void opened(void) {
     same("each byte of a fresh book", &book, 0, &other, sizeof book);
     number("mark", &book, 0, 0x6172626974657200 + FINARUVOM_LAYOUT, 8);
     same("id", &book, 8, id, 16);
-    number("the plain default", &book, 24, 86400, 8);
+    number("the plain default", &book, 24, 86400, 4);
+    number("the plain fee", &book, 28, 0, 4);
     number("clock", &book, 32, 0, 8);
     memset(&other, 0, sizeof other);
     same("a channel's zeros", &book, 40, &other, sizeof book - 40);
@@ -113,20 +116,19 @@ static void establish(uint8_t s[135], uint32_t delay) {
     big_endian(s + 115, 900, 8), big_endian(s + 123, 100, 8), big_endian(s + 131, delay, 4);
 }
 
-// An opening of the book, whatever stands there, with this default delay.
-static uint32_t open_with(size_t id_n, uint32_t delay) {
+// An opening of the book, whatever stands there, with this default delay and fee.
+static uint32_t open_with(size_t id_n, uint32_t delay, uint32_t fee) {
     static const uint8_t id[17] = {9};
-    struct finaruvom_settings settings = finaruvom_plain_settings();
-    settings.delay = delay;
-    return finaruvom_open_with(&book, id, id_n, settings);
+    return finaruvom_open_with(&book, id, id_n, (struct finaruvom_settings){delay, fee});
 }
 
-// A default in range stands in the fresh book, and is the delay of an 02 that has 0.
-static void opened_with(uint32_t delay) {
+// A default and a fee in range stand in the fresh book, and the default is the delay of an 02 that has 0.
+static void opened_with(uint32_t delay, uint32_t fee) {
     uint8_t s[135];
     memset(&book, 0xAA, sizeof book);
-    answers("an opening with a default in range", open_with(16, delay), 0);
-    number("the default given", &book, 24, delay, 8);
+    answers("an opening with a default and a fee in range", open_with(16, delay, fee), 0);
+    number("the default given", &book, 24, delay, 4);
+    number("the fee given", &book, 28, fee, 4);
     number("clock", &book, 32, 0, 8);
     establish(s, 0);
     answers("an 02 with a delay of 0", finaruvom_apply(&book, s, sizeof s).refusal, 0);
@@ -134,25 +136,29 @@ static void opened_with(uint32_t delay) {
 }
 
 // A refused opening leaves every byte of the lent book.
-static void not_opened(const char *what, size_t id_n, uint32_t delay, uint32_t refusal) {
+static void not_opened(const char *what, size_t id_n, uint32_t delay, uint32_t fee, uint32_t refusal) {
     static struct finaruvom_book before;
     memset(&book, 0xAA, sizeof book);
     memset(&before, 0xAA, sizeof before);
-    answers(what, open_with(id_n, delay), refusal);
+    answers(what, open_with(id_n, delay, fee), refusal);
     same("each byte of a book that was not opened", &book, 0, &before, sizeof book);
 }
 
-// The settings of the library, and openings with a default in and out of its range.
+// The settings of the library, and openings with a default and a fee in and out of their ranges.
 static void settings(void) {
     static const uint32_t taken[] = {3600, 2592000, 172800, 86400}, refused[] = {3599, 2592001, 0, 0xFFFFFFFF};
+    static const uint32_t fees[] = {0, 1000, 1, 250}, higher[] = {1001, 10000, 0x10000, 0xFFFFFFFF};
     struct finaruvom_settings plain = finaruvom_plain_settings(), desk = finaruvom_desk_settings();
-    number("the plain settings", &plain, 0, 86400, 4);
-    number("the desk's settings", &desk, 0, 172800, 4);
+    number("the plain settings", &plain, 0, 86400, 8);
+    number("the desk's settings", &desk, 0, 172800, 8);
     for (int i = 0; i < 4; i++) {
-        opened_with(taken[i]);
-        not_opened("an opening with a default out of range", 16, refused[i], 14);
-        not_opened("an opening with a short id and a default out of range", 15, refused[i], 2);
-        not_opened("an opening with a long id", 17, taken[i], 2);
+        opened_with(taken[i], fees[i]);
+        not_opened("an opening with a default out of range", 16, refused[i], fees[i], 14);
+        not_opened("an opening with a short id and a default out of range", 15, refused[i], fees[i], 2);
+        not_opened("an opening with a long id", 17, taken[i], fees[i], 2);
+        not_opened("an opening with a fee out of range", 16, taken[i], higher[i], 20);
+        not_opened("an opening with a default and a fee out of range", 16, refused[i], higher[i], 14);
+        not_opened("an opening with a long id and a fee out of range", 17, taken[i], higher[i], 2);
     }
 }
 
@@ -194,11 +200,20 @@ static void closing(void) {
     struct finaruvom_ran ran = finaruvom_run(&book, (const uint8_t[]){10, 0, 3, 10, 0, 4, 11}, 7, lines, 3);
     number("lines written", &ran, 0, 2, 8), number("bytes used", &ran, 8, 6, 8), number("cause", &ran, 16, 1, 8);
     number("paid to the customer", lines, 0, 700, 8), number("paid to the merchant", lines, 8, 0, 8);
-    number("steps", lines, 16, 0, 4), number("refusal of the first line", lines, 20, 0, 4);
-    number("refusal of the second line", lines, 44, 5, 4);
-    number("a later line", lines, 48, 0x5555555555555555, 8);
+    number("steps", lines, 16, 0, 4), number("refusal of the first line", lines, 20, 0, 4), number("fee of the first line", lines, 24, 0, 8);
+    number("refusal of the second line", lines, 52, 5, 4);
+    number("a later line", lines, 64, 0x5555555555555555, 8);
     found = finaruvom_due(&book);
     number("due", &found, 0, 0, 2);
+}
+
+// A merchant's closing as a lender may write it, settled in a book with a fee.
+static void fee(void) {
+    book.setup.fee = 250, book.channels[3].status = 4;
+    struct finaruvom_answer answer = finaruvom_apply(&book, (const uint8_t[]){10, 0, 3}, 3);
+    number("paid to the customer beside a fee", &answer, 0, 0, 8), number("paid to the merchant without the fee", &answer, 8, 975, 8);
+    number("steps and refusal before a fee", &answer, 16, 0, 8), number("fee", &answer, 24, 25, 8);
+    number("the fee that the book keeps", &book, 28, 250, 4);
 }
 
 // A signing with leaf 5 of a signer that holds any bytes; node 1,028 is the leaf beside.
@@ -233,7 +248,7 @@ static void not_made(void) {
 
 // A settle's payments, collected and read back; a payment that stands behind them is no payment.
 static void bank_lines(void) {
-    static const struct finaruvom_line line = {{.customer = 700, .merchant = 300, .refusal = 5}};
+    static const struct finaruvom_line line = {{.customer = 700, .merchant = 300, .refusal = 5, .fee = 9}};
     struct finaruvom_payment list[3];
     uint8_t bytes[22];
     memset(list, 0x55, sizeof list);
@@ -258,6 +273,7 @@ int main(void) {
     opened();
     established();
     closing();
+    fee();
     signing();
     not_made();
     bank_lines();

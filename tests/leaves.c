@@ -90,7 +90,7 @@ static void file(const uint8_t *command, size_t size) {
     size_t n = command[0] == 1 ? FINARUVOM_CHANNELS : (size_t)(command[1] << 8 | command[2]);
     bool accepted = answer.refusal == FINARUVOM_ACCEPTED, closes = accepted && (command[0] == 7 || command[0] == 8);
     must(accepted || memcmp(&before, &book, sizeof book) == 0, "a refused command changes the book");
-    must(accepted || (answer.customer == 0 && answer.merchant == 0), "a refused command pays");
+    must(accepted || (answer.customer == 0 && answer.merchant == 0 && answer.fee == 0), "a refused command pays");
     must(answer.refusal != FINARUVOM_SPENT_LEAF || command[0] == 9, "a command that is no dispute is refused for its leaf");
     must(others_kept(closes ? n : FINARUVOM_CHANNELS), "a command that is no closing changes leaves");
     if (closes)

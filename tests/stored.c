@@ -1,5 +1,6 @@
-// Stored books: stored FOLDER, which has a book of each layout, written after 18 commands of examples/week.journal. This layout's is read as it was
-// written; every other, and one with a default delay out of range, is answered with 99, and an opening over it leaves the bytes of every fresh book.
+// Stored books: stored FOLDER, which has a book of each layout, written after 18 commands of examples/week.journal, this layout's in a book that was opened
+// with the plain delay and a fee of 250. This layout's is read as it was written; every other, and one with a default delay out of range, is answered with
+// 99, and an opening over it leaves the bytes of every fresh book.
 #include "../include/finaruvom.h"
 #include <stdio.h>
 #include <stdlib.h>
@@ -16,7 +17,7 @@ static void must(bool holds, const char *what) {
 }
 
 // Bytes of a book by its layout.
-static const size_t sizes[] = {0, 12320, 11808, 11816, 12328};
+static const size_t sizes[] = {0, 12320, 11808, 11816, 12328, 12328};
 _Static_assert(sizeof sizes / sizeof sizes[0] == FINARUVOM_LAYOUT + 1, "a size for each layout");
 
 // The first bytes of the book of a layout, as a desk would read them that did not look at the file's length; zeros behind a shorter one.
@@ -34,6 +35,7 @@ static void as_written(void) {
     struct finaruvom_reading disputed = finaruvom_read(&stored, 1), closing = finaruvom_read(&stored, 2);
     must(memcmp(stored.id, "Mill Lane Bakery", sizeof stored.id) == 0 && stored.clock == 1793671200, "this layout's book has another id or clock");
     must(stored.setup.delay == 86400 && stored.channels[1].delay == 86400, "this layout's book has another default, or channel 1 another delay");
+    must(stored.setup.fee == 250, "this layout's book has another fee");
     must(disputed.refusal == FINARUVOM_ACCEPTED && disputed.status == FINARUVOM_CLOSED && disputed.total == 100000, "channel 1 is read otherwise");
     must(closing.status == FINARUVOM_CUSTOMER_CLOSING && closing.total == 55000 && closing.held == 20000 && closing.kept == 20000 &&
              closing.deadline == 1793682000 && closing.lock[0] == 0x58 && closing.lock[31] == 0xdf,
@@ -58,6 +60,7 @@ static void refused(const char *what) {
     must(ran.lines == 1 && lines[0].answer.refusal == FINARUVOM_UNSOUND && memcmp(&lines[1], &unwritten, sizeof unwritten) == 0, what);
     must(finaruvom_open(&lent, id, sizeof id - 1) == FINARUVOM_LENGTH, what);
     must(finaruvom_open_with(&lent, id, sizeof id, (struct finaruvom_settings){0}) == FINARUVOM_SETTINGS_DELAY, what);
+    must(finaruvom_open_with(&lent, id, sizeof id, (struct finaruvom_settings){86400, 1001}) == FINARUVOM_SETTINGS_FEE, what);
     must(memcmp(&before, &lent, sizeof lent) == 0, what);
 }
 
@@ -65,10 +68,10 @@ static void opened(const char *what) {
     must(finaruvom_open(&lent, id, sizeof id) == FINARUVOM_ACCEPTED && memcmp(&lent, &fresh, sizeof lent) == 0, what);
 }
 
-// A default out of range makes a book unsound, also one whose low half is in range; at the edges of the range it does not.
+// A default out of range makes a book unsound, also one whose low bytes are in range; at the edges of the range it does not.
 static void defaults(void) {
-    static const uint64_t wrong[] = {0, 3599, 2592001, UINT32_MAX, ((uint64_t)1 << 32) + 86400, (uint64_t)1 << 63, UINT64_MAX};
-    static const uint64_t right[] = {3600, 172800, 2592000};
+    static const uint32_t wrong[] = {0, 3599, 2592001, ((uint32_t)1 << 24) + 86400, (uint32_t)1 << 31, UINT32_MAX};
+    static const uint32_t right[] = {3600, 172800, 2592000};
     lent = stored;
     for (size_t i = 0; i < sizeof wrong / sizeof wrong[0]; i++) {
         lent.setup.delay = wrong[i];

@@ -117,7 +117,7 @@ def flipped(data, at, bit=0):
 
 
 class Journal:
-    """The commands after a book's id, and the lines that the statement must print for them."""
+    """The commands after a book's id, and the lines that the statement must print for them; its book is opened plainly, so every fee is 0."""
 
     def __init__(self, id):
         self.id, self.commands, self.lines = id, [], []
@@ -130,7 +130,7 @@ class Journal:
             message = data[:1] + self.id + data[1:start]
             steps += steps_of(signer.I, message, data[start + SIGNATURE * i :])
         self.commands.append(data)
-        self.lines.append(f"{len(self.lines) + 1} {refusal} {customer} {merchant} {steps}\n")
+        self.lines.append(f"{len(self.lines) + 1} {refusal} {customer} {merchant} {steps} 0\n")
 
     def save(self, journal, statement, rest=b"", cause=0):
         """Writes both files; `rest` is what the journal holds after its last command, and why the run stops there."""

@@ -1,37 +1,22 @@
--- What a sound book tells of its clock, of what the opening fixed and of each channel, and the test of its channels one by one.
+-- What a sound book tells of each channel, and the test of its channels one by one.
 use mathlib.Core.Path.{_≡_, refl, sym, ap, _∙_}
 use mathlib.Core.Bool.{Bool, true, _&&_, and-true, and-assoc}
 use mathlib.Core.List.{List, [], _∷_}
 use Prim.Native.Nat.{ℕ, zero, suc, _+_, _≤_, _<_}
 use native.Mathlib.Numerals.{add-one}
 use native.Mathlib.Omega.{arith}
-use borrow.Author.Tests.{leb-true}
-use lib.Dec.{leb, eqb}
 use lib.ListN.{length, take, getD}
 use lib.Seq.{take-all}
-use Rattle.machine.specs.Book.{limit, theMark, soundChannel, all, soundSetup, sound, channel, noChannel}
+use Rattle.machine.specs.Book.{soundChannel, all, sound, channel, noChannel}
 use Rattle.machine.specs.declared.state.Book.{Book}
 use Rattle.wire.proofs.Laws.{and-both}
+use Rattle.machine.proofs.Laws.{header, sound-parts}
 
 -- A test of all of a list holds at any place: past the end the default stands in.
 all-at : {A : Type 0} (p : A → Bool) (l : List A) (i : ℕ) (d : A) → p d ≡ true → all p l ≡ true → p (getD l i d) ≡ true
 all-at p [] i d o e = o
 all-at p (x ∷ l) zero d o e = (and-both (p x) (all p l) e) .0
 all-at p (x ∷ l) (suc i) d o e = all-at p l i d o ((and-both (p x) (all p l) e) .1)
-
--- What is asked of the book beside its channels.
-abbrev pub header : Book → Bool
-header b = eqb (b .mark) theMark && leb (b .clock .0) limit && soundSetup (b .setup)
-
-sound-parts : (b : Book) → sound b ≡ true → (header b ≡ true) × (all soundChannel (b .channels) ≡ true)
-unfolding sound
-sound-parts b e = and-both (header b) (all soundChannel (b .channels)) e
-
--- The setup and the clock.
-pub sound-context : (b : Book) → sound b ≡ true → (soundSetup (b .setup) ≡ true) × (b .clock .0 ≤ limit)
-sound-context b e =
-    let h = and-both (eqb (b .mark) theMark && leb (b .clock .0) limit) (soundSetup (b .setup)) ((sound-parts b e) .0) in
-    (h .1, leb-true (b .clock .0) limit ((and-both (eqb (b .mark) theMark) (leb (b .clock .0) limit) (h .0)) .1))
 
 pub sound-at : (b : Book) (n : ℕ) → sound b ≡ true → soundChannel (channel b n) ≡ true
 unfolding soundChannel

@@ -11,9 +11,10 @@ use Rattle.machine.specs.Format.{size, message}
 use Rattle.machine.specs.Book.{total, held, soundChannel, sound, readChannel, reading}
 use Rattle.machine.specs.Checks.{ask}
 use Rattle.machine.specs.Opening.{blankBook, fresh, opening}
+use Rattle.machine.specs.Fee.{feeOf, charged}
 use Rattle.machine.specs.Rules.{delayed, keyed, establish, fundCustomer, fundMerchant, reclaim, mutualClose, customerClose, merchantClose, dispute, settle}
 use Rattle.machine.specs.Machine.{answer, concluded, ruling, verdict, plan, step}
-use Rattle.machine.specs.Ledger.{Paid, nothing, paidBy, entryAt, clock, strings, sum, opcodes, member, has, eventOf, paid, byMerchant, after, Accounted}
+use Rattle.machine.specs.Ledger.{Shares, shares, nothing, paidBy, entryAt, clock, strings, sum, opcodes, member, has, eventOf, paid, byMerchant, after, Accounted}
 use Rattle.machine.proofs.Reached.{yes, plain, opens, list, disputes, standing}
 use Rattle.machine.proofs.ThirdDemand.{third-demand}
 
@@ -25,35 +26,37 @@ accounted : (l : List (List ℕ)) (n : ℕ) → n < 64 → AccountedAt l n
 unfolding opening ask standing
 accounted l n p = third-demand yes plain blankBook opens refl l n p
 
-abbrev pays : ℕ → ℕ → Paid
-pays customer merchant = record { customer = customer; merchant = merchant }
+abbrev parts : ℕ → ℕ → Shares
+parts customer merchant = record { customer = customer; merchant = merchant }
 
 -- In the last second the disputes of channels 5 and 7 are accepted, with leaves that were not used, on channel 7, where there is no 08, with
 -- leaf 0; the leaf of an accepted one was neither the 07's nor the 08's, and its signature is good. The equation and the splits with their
 -- figures: channels 5 and 7, the merchant's alone, before and after the dispute, channel 2, and channel 8, reclaimed without a deposit. The
--- refused 03 and the first 01 pay nothing.
+-- refused 03 and the first 01 pay nothing. The fees of channel 5, of 300 and then of 700, are 7 and 17.
 record Applied : Type 0 where
   accepted : (step yes plain ((standing list) .book) (disputes 5 8)) .answer .refusal ≡ 0
-  closing : 1000 ≡ 700 + 0 + 300
-  over : 1000 ≡ 0 + 0 + 1000
-  agreed : 1000 ≡ 0 + 400 + 600
-  disputed : paid (strings 5 ((standing (list ++ disputes 5 8 ∷ [])) .history)) ≡ pays 0 1000
+  closing : 1000 ≡ 700 + 0 + 293 + 7
+  over : 1000 ≡ 0 + 0 + 976 + 24
+  agreed : 1000 ≡ 0 + 400 + 585 + 15
+  disputed : shares (paid (strings 5 ((standing (list ++ disputes 5 8 ∷ [])) .history))) ≡ parts 0 1000
+  first-fee : 7 ≡ feeOf 250 (293 + 7)
+  second-fee : 17 ≡ feeOf 250 (683 + 17)
   good-09 : (byMerchant yes opens (strings 5 ((standing (list ++ disputes 5 8 ∷ [])) .history)) 9 (disputes 5 8)) .good ≡ true
   closed-first : has 7 (strings 5 ((standing (list ++ disputes 5 8 ∷ [])) .history)) ≡ true
   leaf-07 : _≡_ {A = ℕ} 8 9 → ⊥
   leaf-08 : _≡_ {A = ℕ} 8 7 → ⊥
-  split : paid (strings 2 ((standing list) .history)) ≡ pays 400 600
+  split : shares (paid (strings 2 ((standing list) .history))) ≡ parts 400 600
   credit-accepted : (step yes plain ((standing list) .book) (disputes 7 0)) .answer .refusal ≡ 0
-  credit-closing : 100 ≡ 70 + 0 + 30
-  credit-over : 100 ≡ 0 + 0 + 100
-  credit-disputed : paid (strings 7 ((standing (list ++ disputes 7 0 ∷ [])) .history)) ≡ pays 0 100
-  unfunded : 0 ≡ 0 + 0 + 0
-  reclaimed : paid (strings 8 ((standing list) .history)) ≡ pays 0 0
+  credit-closing : 100 ≡ 70 + 0 + 30 + 0
+  credit-over : 100 ≡ 0 + 0 + 99 + 1
+  credit-disputed : shares (paid (strings 7 ((standing (list ++ disputes 7 0 ∷ [])) .history))) ≡ parts 0 100
+  unfunded : 0 ≡ 0 + 0 + 0 + 0
+  reclaimed : shares (paid (strings 8 ((standing list) .history))) ≡ parts 0 0
   refused : paidBy ((entryAt ((standing list) .history) 11) .answer) ≡ nothing
   timed : paidBy ((entryAt ((standing list) .history) 16) .answer) ≡ nothing
 
 applied : Applied
-unfolding yes plain standing u16At u32At u64At same size message total held soundChannel sound fresh readChannel reading ask delayed keyed establish fundCustomer fundMerchant reclaim mutualClose customerClose merchantClose dispute settle answer concluded ruling verdict plan step after clock strings opcodes member eventOf sum
+unfolding yes plain standing u16At u32At u64At same size message total held soundChannel sound fresh readChannel reading ask delayed keyed establish fundCustomer fundMerchant reclaim mutualClose customerClose merchantClose dispute settle answer concluded ruling verdict plan charged step after clock strings opcodes member eventOf sum
 applied =
     let before = accounted list 5 (omega arith) in
     let after = accounted (list ++ disputes 5 8 ∷ []) 5 (omega arith) in
@@ -67,6 +70,8 @@ applied =
       over = after .conserved;
       agreed = both .conserved;
       disputed = after .disputed refl;
+      first-fee = before .divided 6 (omega arith);
+      second-fee = after .divided 0 (omega arith);
       good-09 = after .signed 9 refl refl;
       closed-first = after .follows refl;
       leaf-07 = (after .leaf-once refl) .of-07;

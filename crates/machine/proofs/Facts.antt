@@ -7,7 +7,7 @@ use native.Mathlib.Omega.{arith}
 use lib.Dec.{eqb, leb}
 use borrow.Author.Tests.{le-leb}
 use Rattle.machine.specs.Book.{agreed, total, held, soundTerms, soundChannel}
-use Rattle.machine.specs.Ledger.{Event, deposits, sum, opcodes, member, has, eventOf, closed, closings, paid, allMerchant, split, Unspent}
+use Rattle.machine.specs.Ledger.{Event, deposits, sum, opcodes, member, has, eventOf, closed, closings, shares, paid, allMerchant, split, Unspent}
 use Rattle.machine.specs.declared.state.Channel.{Channel}
 use Rattle.wire.proofs.Laws.{and-make}
 use Rattle.machine.proofs.Laws.{clash, or-right}
@@ -16,10 +16,10 @@ use Rattle.machine.proofs.Moves.{fewer, lacks-none, signed-none, tally-
 
 pub record Facts (x : Basis) (l : List Event) (c : Channel) : Type 0 where
   pub sound : soundChannel c ≡ true
-  pub conserved : deposits l ≡ held c + (paid l) .customer + (paid l) .merchant
+  pub conserved : deposits l ≡ held c + (paid l) .customer + (paid l) .merchant + (paid l) .fee
   pub closes : closed l ≡ eqb (c .status) 6
-  pub splits : closed l ≡ true → paid l ≡ split l
-  pub disputed : has 9 l ≡ true → paid l ≡ allMerchant l
+  pub splits : closed l ≡ true → shares (paid l) ≡ split l
+  pub disputed : has 9 l ≡ true → shares (paid l) ≡ allMerchant l
   pub leaf-once : has 9 l ≡ true → Unspent (leafIn x l) l ((eventOf 9 l) .string)
   pub follows : has 9 l ≡ true → has 7 l ≡ true
   pub signed : Signed (x .good) l
@@ -33,7 +33,7 @@ module _ (x : Basis) (l : List Event) (c : Channel) where
   unfolding soundChannel
   sound-of t p q = and-make p (or-right (eqb (c .status) 0) (soundTerms c) (and-make (and-make (le-leb _ _ (t .fits)) (and-make (le-leb _ _ (t .least)) (le-leb _ _ (t .most)))) q))
 
-  open-facts : Lacks unclosed l → ((k : ℕ) → has k l ≡ true → has 2 l ≡ true) → eqb (c .status) 6 ≡ false → soundChannel c ≡ true → deposits l ≡ held c + (paid l) .customer + (paid l) .merchant → Signed (x .good) l → (has 7 l ≡ true → (c .status ≡ 5) × Leaving x l c) → Facts x l c
+  open-facts : Lacks unclosed l → ((k : ℕ) → has k l ≡ true → has 2 l ≡ true) → eqb (c .status) 6 ≡ false → soundChannel c ≡ true → deposits l ≡ held c + (paid l) .customer + (paid l) .merchant + (paid l) .fee → Signed (x .good) l → (has 7 l ≡ true → (c .status ≡ 5) × Leaving x l c) → Facts x l c
   unfolding member
   open-facts w v n s d g t = record {
     sound = s;

@@ -1,4 +1,4 @@
--- Laws of truth values, of delays in range, and of equal byte strings.
+-- Laws of truth values, of what a sound book tells beside its channels, and of equal byte strings.
 use mathlib.Core.Path.{_≡_, refl, sym, _∙_}
 use mathlib.Core.Bool.{Bool, true, false, true≢false, false≢true, _&&_, _||_}
 use mathlib.Core.List.{List, [], _∷_}
@@ -6,7 +6,9 @@ use Prim.Native.Nat.{ℕ, _≤_}
 use lib.Dec.{eqb, leb}
 use borrow.Author.Tests.{eqb-true, leb-true}
 use Rattle.wire.specs.Parts.{same}
-use Rattle.machine.specs.Book.{shortest, longest, ranged}
+use Rattle.machine.specs.Book.{limit, shortest, longest, ranged, highest, theMark, soundChannel, all, soundSetup, sound}
+use Rattle.machine.specs.declared.state.Setup.{Setup}
+use Rattle.machine.specs.declared.state.Book.{Book}
 use Rattle.wire.proofs.Laws.{and-both}
 
 pub clash : {x : Bool} → x ≡ true → x ≡ false → ⊥
@@ -31,6 +33,24 @@ or-right false b h = h
 -- What the test of a delay tells.
 pub in-range : (d : ℕ) → ranged d ≡ true → (shortest ≤ d) × (d ≤ longest)
 in-range d h = let p = and-both (leb shortest d) (leb d longest) h in (leb-true _ _ (p .0), leb-true _ _ (p .1))
+
+-- What a sound setup tells of the default and of the fee.
+pub setup-limits : (s : Setup) → soundSetup s ≡ true → (ranged (s .delay) ≡ true) × (s .fee ≤ highest)
+setup-limits s h = let p = and-both (ranged (s .delay)) (leb (s .fee) highest) h in (p .0, leb-true _ _ (p .1))
+
+-- What is asked of the book beside its channels.
+abbrev pub header : Book → Bool
+header b = eqb (b .mark) theMark && leb (b .clock .0) limit && soundSetup (b .setup)
+
+pub sound-parts : (b : Book) → sound b ≡ true → (header b ≡ true) × (all soundChannel (b .channels) ≡ true)
+unfolding sound
+sound-parts b e = and-both (header b) (all soundChannel (b .channels)) e
+
+-- The setup and the clock.
+pub sound-context : (b : Book) → sound b ≡ true → (soundSetup (b .setup) ≡ true) × (b .clock .0 ≤ limit)
+sound-context b e =
+    let h = and-both (eqb (b .mark) theMark && leb (b .clock .0) limit) (soundSetup (b .setup)) ((sound-parts b e) .0) in
+    (h .1, leb-true (b .clock .0) limit ((and-both (eqb (b .mark) theMark) (leb (b .clock .0) limit) (h .0)) .1))
 
 pub same-eq : (x y : List ℕ) → same x y ≡ true → x ≡ y
 unfolding same

@@ -1,6 +1,7 @@
 -- The third demand, the worked figures and what due says, with the laws that they cite.
 pub mod Laws
 pub mod Judging
+pub mod Fees
 pub mod Plans
 pub mod Reached
 pub mod RightTurns

@@ -7,7 +7,7 @@ use lib.ListN.{getD}
 use Rattle.machine.specs.Format.{customerDeposit, merchantDeposit, delay, customerPart, merchantPart, lock, merchantKey}
 use Rattle.machine.specs.Book.{limit, shortest, longest, agreed}
 use Rattle.machine.specs.Rules.{delayed}
-use Rattle.machine.specs.Ledger.{Event, deposits, member, has, eventOf, closed, closings, paid, allMerchant, split, oneSided, Unspent}
+use Rattle.machine.specs.Ledger.{Event, deposits, member, has, eventOf, closed, closings, shares, paid, allMerchant, split, oneSided, Unspent}
 use Rattle.machine.specs.declared.state.Channel.{Channel}
 use Rattle.machine.specs.declared.state.Setup.{Setup}
 
@@ -62,11 +62,11 @@ pub record Terms (x : Basis) (made : Bool) (s : List ℕ) (first second wait : �
 abbrev pub TermsOf : Basis → List Event → Channel → Type 0
 TermsOf x l c = Terms x (has 2 l) ((eventOf 2 l) .string) (c .customer .deposit .0) (c .merchant .deposit .0) (c .delay) (c .merchant .key)
 
--- What came in, and what was paid to each side.
+-- What came in, and what was paid to each side, to the merchant with the fee.
 pub record Money (l : List Event) (in′ customer merchant : ℕ) : Type 0 where
   pub deposited : deposits l ≡ in′
-  pub toCustomer : (paid l) .customer ≡ customer
-  pub toMerchant : (paid l) .merchant ≡ merchant
+  pub toCustomer : (shares (paid l)) .customer ≡ customer
+  pub toMerchant : (shares (paid l)) .merchant ≡ merchant
 
 -- It keeps what the accepted 07 says.
 pub record Closing (e : Event) (kept total deadline wait : ℕ) (locked : List ℕ) : Type 0 where
@@ -115,9 +115,9 @@ pub record Over (x : Basis) (l : List Event) (c : Channel) : Type 0 where
   pub ended : closed l ≡ true
   pub single : closings l < 2
   pub left : (has 7 l && not (has 9 l || has 10 l)) ≡ false
-  pub even : deposits l ≡ (paid l) .customer + (paid l) .merchant
-  pub splits : paid l ≡ split l
-  pub disputed : has 9 l ≡ true → paid l ≡ allMerchant l
+  pub even : deposits l ≡ (shares (paid l)) .customer + (shares (paid l)) .merchant
+  pub splits : shares (paid l) ≡ split l
+  pub disputed : has 9 l ≡ true → shares (paid l) ≡ allMerchant l
   pub leaf-once : has 9 l ≡ true → Unspent (leafIn x l) l ((eventOf 9 l) .string)
   pub follows : has 9 l ≡ true → has 7 l ≡ true
   pub signed : Signed (x .good) l

@@ -12,12 +12,12 @@ use Rattle.machine.specs.Book.{limit, shortest, longest, ranged, agreed,
 use Rattle.machine.specs.Book as book
 use Rattle.machine.specs.Rules.{Plan, moved, become, delayed, delayFits, established, establish, fundCustomer, fundMerchant, reclaim, mutualClose, customerClose, merchantClose, dispute, settle}
 use Rattle.machine.specs.Machine.{customerOf, merchantOf, verdict, plan}
-use Rattle.machine.specs.Ledger.{Event, deposits, sum, opcodes, member, tally, has, count, eventOf, closings, agreedCustomer, agreedTotal, paid, allMerchant, split, oneSided, Unspent}
+use Rattle.machine.specs.Ledger.{Event, paidBy, deposits, sum, opcodes, member, tally, has, count, eventOf, closings, agreedCustomer, agreedTotal, shares, paid, allMerchant, split, oneSided, Unspent}
 use Rattle.machine.specs.declared.state.Channel.{Channel}
 use Rattle.machine.specs.declared.state.Context.{Context}
 use Rattle.machine.specs.declared.answers.Answer.{Answer}
 use Rattle.wire.proofs.Laws.{and-both}
-use Rattle.machine.proofs.Laws.{clash, in-range, or-neither, or-other, or-right}
+use Rattle.machine.proofs.Laws.{clash, in-range, setup-limits, or-neither, or-other, or-right}
 use Rattle.machine.proofs.Judging.{Passed}
 use Rattle.machine.proofs.Leaves.{unspent}
 use Rattle.machine.proofs.Life.{Basis, leafIn, Signed, Lacks, unclosed, unanswered, running, unmatched, unfunded, TermsOf, Money, Live, Waiting, Leaving, Over, StageAt, Stage}
@@ -48,8 +48,8 @@ pub signed-none : (good : List ℕ → ℕ → List ℕ → Bool) (l : List Even
 unfolding member
 signed-none good l w = each-one-sided (λ k. has k l ≡ true → good (merchantKey ((eventOf 2 l) .string)) k ((eventOf k l) .string) ≡ true) (λ h. absurd (clash h (w 7 refl))) (λ h. absurd (clash h (w 8 refl))) (λ h. absurd (clash h (w 9 refl)))
 
-paid-split : (l : List Event) (x y : ℕ) → split l ≡ record { customer = x; merchant = y } → (paid l) .customer ≡ x → (paid l) .merchant ≡ y → paid l ≡ split l
-paid-split l x y p q r = ap (λ (i : ℕ). record { customer = i; merchant = (paid l) .merchant }) q ∙ ap (λ (i : ℕ). record { customer = x; merchant = i }) r ∙ sym p
+paid-split : (l : List Event) (x y : ℕ) → split l ≡ record { customer = x; merchant = y } → (shares (paid l)) .customer ≡ x → (shares (paid l)) .merchant ≡ y → shares (paid l) ≡ split l
+paid-split l x y p q r = ap (λ (i : ℕ). record { customer = i; merchant = (shares (paid l)) .merchant }) q ∙ ap (λ (i : ℕ). record { customer = x; merchant = i }) r ∙ sym p
 
 pub tally-none : (i : ℕ) (o : List ℕ) → member i o ≡ false → tally i o ≡ 0
 unfolding member tally
@@ -97,13 +97,13 @@ module _ (l : List Event) (s : List ℕ) (a : Answer) (k : ℕ) where
   unfolding sum
   a-funds o = rw o
 
-  pays-customer : (paid (next ∷ l)) .customer ≡ a .customer .0 + (paid l) .customer
+  pays-customer : (shares (paid (next ∷ l))) .customer ≡ a .customer .0 + (shares (paid l)) .customer
   unfolding sum
   pays-customer = refl
 
-  pays-merchant : (paid (next ∷ l)) .merchant ≡ a .merchant .0 + (paid l) .merchant
+  pays-merchant : (shares (paid (next ∷ l))) .merchant ≡ (shares (paidBy a)) .merchant + (shares (paid l)) .merchant
   unfolding sum
-  pays-merchant = refl
+  pays-merchant = omega arith
 
   lacks-on : (ks : List ℕ) → member (opcode s) ks ≡ false → Lacks ks l → Lacks ks (next ∷ l)
   unfolding opcodes member
@@ -150,7 +150,7 @@ module _ (l : List Event) (s : List ℕ) (a : Answer) (k : ℕ) where
 
     abbrev pub Leads : ℕ → Plan → Type 0
     Leads op p =
-        opcode s ≡ op → Passed (p .checks) → a .customer .0 ≡ p .pays .customer .0 → a .merchant .0 ≡ p .pays .merchant .0 → Stage basis l c → Stage basis (next ∷ l) (p .channel) × (has op l ≡ false)
+        opcode s ≡ op → Passed (p .checks) → a .customer .0 ≡ p .pays .customer .0 → (shares (paidBy a)) .merchant ≡ p .pays .merchant .0 → Stage basis l c → Stage basis (next ∷ l) (p .channel) × (has op l ≡ false)
 
     -- The stage at a status that check 5 found.
     found : (n : ℕ) → eqb (c .status) n ≡ true → Stage basis l c → StageAt basis l c n
@@ -160,12 +160,12 @@ module _ (l : List Event) (s : List ℕ) (a : Answer) (k : ℕ) where
     unfolding establish opcodes member sum
     establishes o p pc pm g =
         let e : l ≡ [] = found 0 (p .0) g in
-        let d = delayed-fits (at .setup .delay) fixed (delay s) (p .1 .1 .0) in
+        let d = delayed-fits (at .setup .delay) (setup-limits (at .setup) fixed .0) (delay s) (p .1 .1 .0) in
         let f = and-both (leb (customerDeposit s + merchantDeposit s) limit) _ (p .1 .1 .1 .0) in
         let ch = established (at .setup .delay) (customerOf s) (merchantOf s) (delay s) c in
         let t : TermsOf basis (next ∷ l) ch = rw (event-next 2 (rw o)) (record { there = rw o; customer = refl; merchant = refl; delays = refl; signer = refl; fits = leb-true _ _ (f .0); least = d .0; most = d .1 }) in
         let w = lacks-on unfunded (rw o) (rw e (lacks-none unfunded)) in
-        let m : Money (next ∷ l) 0 0 0 = omega (arith, no-funds (rw o), pays-customer, pays-merchant, ap deposits e, ap (λ x. (paid x) .customer) e, ap (λ x. (paid x) .merchant) e) in
+        let m : Money (next ∷ l) 0 0 0 = omega (arith, no-funds (rw o), pays-customer, pays-merchant, ap deposits e, ap (λ x. (shares (paid x)) .customer) e, ap (λ x. (shares (paid x)) .merchant) e) in
         let go : (b : Bool) → eqb (customerDeposit s) 0 ≡ b → StageAt basis (next ∷ l) ch (cond b 2 1) = elim [
           | true ↦ λ z. record { terms = t; lacks = fewer 3 unmatched (next ∷ l) w; money = rw (eqb-true (customerDeposit s) 0 z) m }
           | false ↦ λ z. record { terms = t; lacks = w; money = m }
@@ -337,7 +337,7 @@ module _ (l : List Event) (s : List ℕ) (a : Answer) (k : ℕ) where
             let g′ = w .live in
             let e = eqb-true (c .status) 4 z in
             let x : a .customer .0 ≡ 0 = pc ∙ rw z in
-            let y : a .merchant .0 ≡ agreed c = pm ∙ rw z (total-at c 3 e) in
+            let y : (shares (paidBy a)) .merchant ≡ agreed c = pm ∙ rw z (total-at c 3 e) in
             let t = terms-on (rw o) (g′ .terms) in (
               record {
                 terms = t;
@@ -358,7 +358,7 @@ module _ (l : List Event) (s : List ℕ) (a : Answer) (k : ℕ) where
             let q = or-other (eqb (c .status) 4) (eqb (c .status) 5) (p .0) z in
             let g′ : Leaving basis l c = found 5 q g in
             let x : a .customer .0 ≡ c .kept .0 = pc ∙ rw z in
-            let y : a .merchant .0 ≡ 0 = pm ∙ rw z in
+            let y : (shares (paidBy a)) .merchant ≡ 0 = pm ∙ rw z in
             let n = event-skip 7 (rw o) in (
               record {
                 terms = terms-on (rw o) (g′ .terms);

@@ -1,5 +1,5 @@
 -- A list by computing, so that the third demand speaks of books that are reached, with a check that always says yes and a hash that changes
--- nothing, on a book opened with the desk's settings: channel 2 is closed by both; the customer closes channels 5 and 7, whose 02 has the delay
+-- nothing, on a book opened with a default of two days and a fee of 250: channel 2 is closed by both; the customer closes channels 5 and 7, whose 02 has the delay
 -- 0; the clock shows the last second before the deadline of the default. On channel 5 the customer answers an 08 with leaf 7, by a 07 with leaf
 -- 9; on channel 7 there is no 08, the 07 has leaf 1, and leaf 0 is not used. Channels 7 and 8 are the merchant's alone to fund; channel 8 is
 -- reclaimed before he does.
@@ -13,7 +13,8 @@ use Rattle.wire.specs.Parts.{same}
 use Rattle.machine.specs.Format.{size, message}
 use Rattle.machine.specs.Book.{total, held, soundChannel, sound, readChannel, reading}
 use Rattle.machine.specs.Checks.{Verdict, ask}
-use Rattle.machine.specs.Opening.{Opening, under, deskSettings, fresh}
+use Rattle.machine.specs.Opening.{Opening, under, fresh}
+use Rattle.machine.specs.Fee.{charged}
 use Rattle.machine.specs.Rules.{delayed, keyed, establish, fundCustomer, fundMerchant, reclaim, mutualClose, customerClose, merchantClose, dispute, settle}
 use Rattle.machine.specs.Machine.{answer, concluded, ruling, verdict, plan, step}
 use Rattle.machine.specs.Ledger.{Standing, after}
@@ -58,7 +59,7 @@ abbrev pub disputes : ℕ → ℕ → List ℕ
 disputes n leaf = 9 ∷ two n ++ replicate 32 5 ++ signs leaf
 
 abbrev pub opens : Opening
-opens = under deskSettings (replicate 16 0)
+opens = under (record { delay = 172800; fee = 250 }) (replicate 16 0)
 
 -- The sixth string, 03 with 899, is refused.
 abbrev pub list : List (List ℕ)
@@ -90,7 +91,8 @@ record Reached (t : Standing) : Type 0 where
   holds : (reading (t .book) 5) .held .0 ≡ 700
   deadline : (reading (t .book) 5) .deadline .0 ≡ 173800
   disputed : (step yes plain (t .book) (disputes 5 8)) .answer .refusal ≡ 0
-  pays : (step yes plain (t .book) (disputes 5 8)) .answer .merchant .0 ≡ 700
+  pays : (step yes plain (t .book) (disputes 5 8)) .answer .merchant .0 ≡ 683
+  charges : (step yes plain (t .book) (disputes 5 8)) .answer .fee .0 ≡ 17
   steps : (step yes plain (t .book) (disputes 5 8)) .answer .steps ≡ 510
   spent-07 : (step yes plain (t .book) (disputes 5 9)) .answer .refusal ≡ 16
   spent-08 : (step yes plain (t .book) (disputes 5 7)) .answer .refusal ≡ 16
@@ -98,9 +100,9 @@ record Reached (t : Standing) : Type 0 where
   spent-alone : (step yes plain (t .book) (disputes 7 1)) .answer .refusal ≡ 16
   settles : (step yes plain (t .book) (10 ∷ two 5)) .answer .refusal ≡ 9
   late : (step yes plain ((step yes plain (t .book) (clocks 173800)) .book) (disputes 5 8)) .answer .refusal ≡ 9
-  credit-pays : (step yes plain (t .book) (disputes 7 0)) .answer .merchant .0 ≡ 70
+  credit-pays : (step yes plain (t .book) (disputes 7 0)) .answer .merchant .0 ≡ 69
   reclaimed : (reading (t .book) 8) .status ≡ 6
 
 reached : Reached (standing list)
-unfolding yes plain standing u16At u32At u64At same size message total held soundChannel sound fresh readChannel reading ask delayed keyed establish fundCustomer fundMerchant reclaim mutualClose customerClose merchantClose dispute settle answer concluded ruling verdict plan step after
-reached = record { status = refl; holds = refl; deadline = refl; disputed = refl; pays = refl; steps = refl; spent-07 = refl; spent-08 = refl; spent-steps = refl; spent-alone = refl; settles = refl; late = refl; credit-pays = refl; reclaimed = refl }
+unfolding yes plain standing u16At u32At u64At same size message total held soundChannel sound fresh readChannel reading ask delayed keyed establish fundCustomer fundMerchant reclaim mutualClose customerClose merchantClose dispute settle answer concluded ruling verdict plan charged step after
+reached = record { status = refl; holds = refl; deadline = refl; disputed = refl; pays = refl; charges = refl; steps = refl; spent-07 = refl; spent-08 = refl; spent-steps = refl; spent-alone = refl; settles = refl; late = refl; credit-pays = refl; reclaimed = refl }

@@ -1,34 +1,39 @@
 -- The sentences that are easy to misread hold.
-use mathlib.Core.Path.{_≡_, refl, ap, _∙_}
-use mathlib.Core.Bool.{Bool, true, false, cond, _&&_, or-true}
+use mathlib.Core.Path.{_≡_, refl, sym, ap, _∙_}
+use mathlib.Core.Bool.{Bool, true, false, cond, _&&_, or-true, and-false}
 use mathlib.Core.List.{List, [], _∷_}
 use Prim.Native.Nat.{ℕ, zero, suc, _+_, _≤_, _<_}
+use native.Mathlib.Nat.{sub-add-cancel}
 use native.Mathlib.Omega.{arith}
 use lib.Dec.{eqb, leb}
 use lib.ListN.{getD, drop}
 use borrow.Author.Tests.{eq-eqb, ne-eqb, eqb-false, le-leb, lt-leb, lt-ltb}
 use Rattle.lms.specs.Layout.{typedKey}
 use Rattle.machine.specs.Format.{opcode, time, place}
-use Rattle.machine.specs.Book.{limit, ranged, layout, markOf, theMark, all, soundChannel, sound, total, readChannel, reading, channel}
+use Rattle.machine.specs.Book.{limit, ranged, layout, markOf, theMark, all, soundChannel, soundSetup, sound, total, readChannel, reading, channel}
 use Rattle.machine.specs.Checks.{Check, test, Verdict, clean, ask, judge}
 use Rattle.machine.specs.Opening.{Opening, fresh, opening}
 use Rattle.machine.specs.Due.{due}
+use Rattle.machine.specs.Fee.{charged}
 use Rattle.machine.specs.Rules.{delayed, keyed, delayFits, depositsFit, establish, fundCustomer, fundMerchant, reclaim, mutualClose, customerClose, merchantClose, dispute, settle}
 use Rattle.machine.specs.Machine.{answer, concluded, ruling, Order, setClock, onChannel, formed, shared, carried, contextOf, noPlan, plans, plan, order, step}
-use Rattle.machine.specs.WrongTurns.{refusal, answered, rising, Keys, DisputesByLeaf, notOpened, Opens, Unsound, WrongTurns}
+use Rattle.machine.specs.WrongTurns.{refusal, answered, rising, Keys, DisputesByLeaf, notOpened, Opens, Divides, Unsound, WrongTurns}
 use Rattle.machine.specs.declared.state.Party.{Party}
 use Rattle.machine.specs.declared.state.Channel.{Channel}
 use Rattle.machine.specs.declared.state.Context.{Context}
 use Rattle.machine.specs.declared.state.Book.{Book}
 use Rattle.machine.specs.declared.answers.Judged.{Judged}
+use Rattle.machine.specs.declared.answers.Stepped.{Stepped}
 use Rattle.wire.proofs.Laws.{same-refl}
-use Rattle.machine.proofs.Laws.{and-middle, same-ne}
+use Rattle.machine.proofs.Laws.{and-middle, setup-limits, sound-context, same-ne}
+use Rattle.machine.proofs.Fees.{fee-below, no-fee}
 use Rattle.machine.proofs.Judging.{judge-stop}
 use Rattle.machine.proofs.Plans.{each-plan}
 
+-- A refused command has no fee.
 carried-stops : (j : Judged) (b : Book) (o : Order) → (j .refusal ≡ 0 → ⊥) → carried j b o ≡ record { book = b; answer = refusal (j .refusal) (j .steps) }
-unfolding answer
-carried-stops j b o h = rw (ne-eqb _ _ h)
+unfolding answer charged
+carried-stops j b o h = rw (ne-eqb _ _ h, no-fee (b .setup .fee))
 
 -- The first of a list of checks says no.
 first-no : (r : ℕ) (x : Bool) (l : List Check) (b : Book) (o : Order) → x ≡ false → (r ≡ 0 → ⊥) → carried (judge clean (test r x ∷ l)) b o ≡ record { book = b; answer = refusal r 0 }
@@ -54,15 +59,17 @@ above-range d h = go (leb 3600 d)
 opens : (lent : Book) (o : Opening) → Opens lent o
 unfolding opening fresh ask
 opens lent o = record {
-  id-first = λ n. rw (ne-eqb _ _ n) (go (ranged (o .settings .delay)));
+  id-first = λ n. rw (ne-eqb _ _ n) (go (ranged (o .settings .delay)) (leb (o .settings .fee) 1000));
   short = λ e h. rw (eq-eqb _ _ e, below-range _ h);
   long = λ e h. rw (eq-eqb _ _ e, above-range _ h);
-  accepted = λ e h k. rw (eq-eqb _ _ e, le-leb _ _ h, le-leb _ _ k);
+  dear = λ e h k f. rw (eq-eqb _ _ e, le-leb _ _ h, le-leb _ _ k, lt-leb _ _ f);
+  accepted = λ e h k f. rw (eq-eqb _ _ e, le-leb _ _ h, le-leb _ _ k, le-leb _ _ f);
   default = refl;
+  fee = refl;
 }
   where
-    go : (x : Bool) → (let j = judge clean (test 2 false ∷ test 14 x ∷ []) in record { book = cond (eqb (j .refusal) 0) (fresh o) lent; refusal = j .refusal }) ≡ notOpened lent 2
-    go x = refl
+    go : (x y : Bool) → (let j = judge clean (test 2 false ∷ test 14 x ∷ test 20 y ∷ []) in record { book = cond (eqb (j .refusal) 0) (fresh o) lent; refusal = j .refusal }) ≡ notOpened lent 2
+    go x y = refl
 
 -- Keys of the right types.
 module _ (at : Context) (customer merchant : Party) (d : ℕ) (ch : Channel) (unused : ch .status ≡ 0) (first : typedKey (customer .key) ≡ true) (second : typedKey (merchant .key) ≡ true) where
@@ -125,13 +132,21 @@ module _ (check : List ℕ → List ℕ → List ℕ → Verdict) (hash : List �
   unfolding sound
   other-layout b n e h = unsound b (rw (ne-eqb (b .mark) theMark (λ m. h (omega (arith, e, m)))))
 
-  other-default : (b : Book) → ranged (b .setup .delay) ≡ false → Unsound check hash b
+  other-setup : (b : Book) → soundSetup (b .setup) ≡ false → Unsound check hash b
   unfolding sound
-  other-default b e = unsound b (and-middle (eqb (b .mark) theMark && leb (b .clock .0) limit) _ (all soundChannel (b .channels)) e)
+  other-setup b e = unsound b (and-middle (eqb (b .mark) theMark && leb (b .clock .0) limit) _ (all soundChannel (b .channels)) e)
+
+  divides : (b : Book) (s : List ℕ) → (step check hash b s) .answer .refusal ≡ 0 → Divides (b .setup .fee) ((order check hash b s) .pays) ((step check hash b s) .answer)
+  unfolding step answer charged
+  divides b s h = go (sound b) refl
+    where
+      go : (x : Bool) → sound b ≡ x → Divides (b .setup .fee) ((order check hash b s) .pays) ((step check hash b s) .answer)
+      go true e = rw (eq-eqb _ _ h) (record { customer = refl; fee = refl; whole = sub-add-cancel (fee-below (b .setup .fee) _ (setup-limits (b .setup) (sound-context b e .0) .1)) })
+      go false e = absurd (eqb-false 99 0 refl (sym (ap (λ (r : Stepped). r .answer .refusal) ((unsound b e) .answers s)) ∙ h))
 
   refused : (b : Book) (s : List ℕ) → ((step check hash b s) .answer .refusal ≡ 0 → ⊥)
       → step check hash b s ≡ record { book = b; answer = refusal ((step check hash b s) .answer .refusal) ((step check hash b s) .answer .steps) }
-  unfolding step answer
+  unfolding step answer charged
   refused b s h = carried-stops (judge clean (shared b s ((order check hash b s) .checks))) b (order check hash b s) h
 
   pub right-turns : WrongTurns check hash
@@ -139,10 +154,12 @@ module _ (check : List ℕ → List ℕ → List ℕ → Verdict) (hash : List �
   right-turns = record {
     unsound = unsound;
     other-layout = other-layout;
-    short-default = λ b h. other-default b (below-range _ h);
-    long-default = λ b h. other-default b (above-range _ h);
+    short-default = λ b h. other-setup b (rw (below-range _ h));
+    long-default = λ b h. other-setup b (rw (above-range _ h));
+    dear-fee = λ b h. other-setup b (rw (lt-leb _ _ h) (and-false (ranged (b .setup .delay))));
     opens = opens;
     refused = refused;
+    divides = divides;
     unused = λ ch e. rw e;
     establishes = λ at customer merchant ch. record {
       default = refl;

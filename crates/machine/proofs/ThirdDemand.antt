@@ -12,20 +12,23 @@ use Rattle.wire.specs.Numbers.{u32At}
 use Rattle.sha256.specs.Digest.{sha256}
 use Rattle.lms.proofs.LeafLaw.{leafLaw}
 use Rattle.machine.specs.Format.{opcode, size, time, place, delay, signatures, signature, message}
-use Rattle.machine.specs.Book.{cents, limit, theMark, soundChannel, all, soundSetup, sound, remembered, noChannel, channel, reading, readChannel}
+use Rattle.machine.specs.Book.{cents, limit, highest, theMark, soundChannel, all, soundSetup, sound, remembered, noChannel, channel, reading, readChannel}
 use Rattle.machine.specs.Checks.{Check, Verdict, clean, passed, judge}
 use Rattle.machine.specs.Opening.{Opening, openingChecks, setupOf, unused, fresh, opening}
-use Rattle.machine.specs.Rules.{delayed, establish, fundCustomer, fundMerchant, reclaim, mutualClose, customerClose, merchantClose, dispute, settle}
+use Rattle.machine.specs.Fee.{charged}
+use Rattle.machine.specs.Rules.{Payment, pay, delayed, establish, fundCustomer, fundMerchant, reclaim, mutualClose, customerClose, merchantClose, dispute, settle}
 use Rattle.machine.specs.Machine.{answer, Order, setClock, onChannel, shared, carried, contextOf, plans, plan, noPlan, planned, order, verdict, step}
 use Rattle.machine.specs.Real.{lmsVerdict}
-use Rattle.machine.specs.Ledger.{Entry, Event, accepted, ofChannel, clock, strings, ofNone, paidBy, nothing, entryAt, opcodes, member, tally, has, eventOf, oneSided, Timely, Standing, recorded, after, leafOf, Disputes, Accounted, ThirdDemand}
+use Rattle.machine.specs.Ledger.{Entry, Event, accepted, ofChannel, clock, strings, ofNone, paidBy, nothing, Divided, entryAt, opcodes, member, tally, has, eventOf, oneSided, Timely, Standing, recorded, after, leafOf, Disputes, Accounted, ThirdDemand}
 use Rattle.machine.specs.declared.state.Channel.{Channel}
 use Rattle.machine.specs.declared.state.Setup.{Setup}
 use Rattle.machine.specs.declared.state.Book.{Book}
+use Rattle.machine.specs.declared.answers.Answer.{Answer}
 use Rattle.machine.specs.declared.answers.Judged.{Judged}
 use Rattle.machine.specs.declared.answers.Stepped.{Stepped}
 use Rattle.wire.proofs.Laws.{and-both, and-make, same-refl}
-use Rattle.machine.proofs.Laws.{clash}
+use Rattle.machine.proofs.Laws.{clash, setup-limits}
+use Rattle.machine.proofs.Fees.{charged-whole, charged-divided, no-fee}
 use Rattle.machine.proofs.Judging.{Passed, coded, judge-passed, passed-judge}
 use Rattle.machine.proofs.Plans.{each-plan}
 use Rattle.machine.proofs.Life.{Basis, Stage}
@@ -47,14 +50,21 @@ set-each Q d l m a h q r n = go (eqb m n) refl
     go true z = subst (λ j. Q j (getD (set l m a) j d)) (eqb-true m n z) (subst (Q m) (sym (getD-set-same l m a d h)) q)
     go false z = subst (Q n) (sym (getD-set-other l m n a d (λ e. eqb-false m n z (sym e)))) (r n z)
 
--- ---- strings that are no channel's
+-- ---- every entry of a history
 
-abbrev Unpaid : List Entry → Type 0
-Unpaid h = (i : ℕ) → i < length h → ofNone (entryAt h i) ≡ true → paidBy ((entryAt h i) .answer) ≡ nothing
+abbrev Each : (Entry → Type 0) → List Entry → Type 0
+Each P h = (i : ℕ) → i < length h → P (entryAt h i)
 
-unpaid-on : (e : Entry) (h : List Entry) → (ofNone e ≡ true → paidBy (e .answer) ≡ nothing) → Unpaid h → Unpaid (e ∷ h)
-unpaid-on e h f u zero p n = f n
-unpaid-on e h f u (suc i) p n = u i (omega (arith, p)) n
+each-on : (P : Entry → Type 0) (e : Entry) (h : List Entry) → P e → Each P h → Each P (e ∷ h)
+each-on P e h f u zero p = f
+each-on P e h f u (suc i) p = u i (omega (arith, p))
+
+-- A string that is no channel's pays nothing.
+abbrev Unpaid : Entry → Type 0
+Unpaid e = ofNone e ≡ true → paidBy (e .answer) ≡ nothing
+
+abbrev Charged : ℕ → Entry → Type 0
+Charged r e = Divided r (paidBy (e .answer))
 
 -- ---- the book agrees with its history
 
@@ -75,7 +85,8 @@ record Agrees (check : List ℕ → List ℕ → List ℕ → Verdict) (o : Open
   early : t .book .clock .0 ≤ limit
   many : length (t .book .channels) ≡ 64
   stage : (n : ℕ) → n < 64 → Stage (basisOf check (t .book)) (strings n (t .history)) (channel (t .book) n)
-  idle : Unpaid (t .history)
+  idle : Each Unpaid (t .history)
+  divided : Each (Charged (o .settings .fee)) (t .history)
   once : (n : ℕ) → n < 64 → Once (strings n (t .history))
 
 -- One more accepted string of a channel, and the strings of that channel and of another.
@@ -88,9 +99,17 @@ module _ (h : List Entry) (e : Entry) (yes : accepted e ≡ true) where
   unfolding strings
   strings-other n o = rw (yes, o)
 
--- What an accepted order leaves.
-abbrev granted : Order → ℕ → Stepped
-granted o steps = record { book = o .book; answer = record { refusal = 0; customer = o .pays .customer; merchant = o .pays .merchant; steps = steps } }
+-- An answer before its fee; what an accepted order leaves.
+abbrev uncharged : Payment → ℕ → ℕ → Answer
+uncharged p code steps = record { refusal = code; customer = p .customer; merchant = p .merchant; steps = steps; fee = cents 0 }
+
+abbrev granted : ℕ → Order → ℕ → Stepped
+granted r o steps = record { book = o .book; answer = charged r (uncharged (o .pays) 0 steps) }
+
+-- Where nothing is paid there is no fee.
+unpaid : (r code steps : ℕ) → paidBy (charged r (uncharged (pay 0 0) code steps)) ≡ nothing
+unfolding charged
+unpaid r code steps = rw (no-fee r)
 
 module _ (check : List ℕ → List ℕ → List ℕ → Verdict) (o : Opening) (t : Standing) (i : Agrees check o t) where
   facts : (n : ℕ) → n < 64 → Facts (basisOf check (t .book)) (strings n (t .history)) (channel (t .book) n)
@@ -100,9 +119,21 @@ module _ (check : List ℕ → List ℕ → List ℕ → Verdict) (o : Opening) 
   unfolding sound
   sound-book = and-make (and-make (and-make (eq-eqb _ _ (i .mark)) (le-leb _ _ (i .early))) (i .fixed)) (all-of soundChannel noChannel (t .book .channels) (λ n p. (facts n (omega (arith, i .many))) .sound))
 
+  abbrev rate : ℕ
+  rate = t .book .setup .fee
+
+  low : rate ≤ highest
+  low = setup-limits (t .book .setup) (i .fixed) .1
+
   module _ (s : List ℕ) where
-    refused-agrees : (code steps : ℕ) → eqb code 0 ≡ false → Agrees check o (recorded t s (record { book = t .book; answer = record { refusal = code; customer = cents 0; merchant = cents 0; steps = steps } }))
-    unfolding strings clock
+    abbrev entered : Answer → Entry
+    entered a = record { string = s; answer = charged rate a }
+
+    each-charged : (a : Answer) → Each (Charged (o .settings .fee)) (entered a ∷ t .history)
+    each-charged a = each-on (Charged (o .settings .fee)) (entered a) (t .history) (subst (λ (x : Setup). Divided (x .fee) (paidBy (charged rate a))) (i .setup) (charged-divided rate a low)) (i .divided)
+
+    refused-agrees : (code steps : ℕ) → eqb code 0 ≡ false → Agrees check o (recorded t s (record { book = t .book; answer = charged rate (uncharged (pay 0 0) code steps) }))
+    unfolding strings clock charged
     refused-agrees code steps z = record {
       mark = i .mark;
       same = i .same;
@@ -113,11 +144,12 @@ module _ (check : List ℕ → List ℕ → List ℕ → Verdict) (o : Opening) 
       many = i .many;
       stage = λ n p. rw z (i .stage n p);
       once = λ n p. rw z (i .once n p);
-      idle = unpaid-on _ (t .history) (λ _. refl) (i .idle);
+      idle = each-on Unpaid (entered (uncharged (pay 0 0) code steps)) (t .history) (λ _. unpaid rate code steps) (i .idle);
+      divided = each-charged (uncharged (pay 0 0) code steps);
     }
 
-    clock-agrees : (steps : ℕ) → opcode s ≡ 1 → Passed ((setClock (t .book) (time s)) .checks) → Agrees check o (recorded t s (granted (setClock (t .book) (time s)) steps))
-    unfolding strings clock
+    clock-agrees : (steps : ℕ) → opcode s ≡ 1 → Passed ((setClock (t .book) (time s)) .checks) → Agrees check o (recorded t s (granted rate (setClock (t .book) (time s)) steps))
+    unfolding strings clock charged
     clock-agrees steps e p =
         let q = and-both (leb (t .book .clock .0) (time s)) _ (p .0) in
         record {
@@ -130,15 +162,16 @@ module _ (check : List ℕ → List ℕ → List ℕ → Verdict) (o : Opening) 
           many = i .many;
           stage = λ n p. rw e (i .stage n p);
           once = λ n p. rw e (i .once n p);
-          idle = unpaid-on _ (t .history) (λ _. refl) (i .idle);
+          idle = each-on Unpaid (entered (uncharged (pay 0 0) 0 steps)) (t .history) (λ _. unpaid rate 0 steps) (i .idle);
+          divided = each-charged (uncharged (pay 0 0) 0 steps);
         }
 
     module _ (hash : List ℕ → List ℕ) where
       abbrev named : Order
       named = onChannel (t .book) (place s) (planned check hash (t .book) s)
 
-      channel-agrees : (steps : ℕ) → eqb (opcode s) 1 ≡ false → ofChannel s ≡ true → Passed (named .checks) → Agrees check o (recorded t s (granted named steps))
-      unfolding clock verdict
+      channel-agrees : (steps : ℕ) → eqb (opcode s) 1 ≡ false → ofChannel s ≡ true → Passed (named .checks) → Agrees check o (recorded t s (granted rate named steps))
+      unfolding clock verdict charged
       channel-agrees steps u c p = record {
         mark = i .mark;
         same = i .same;
@@ -147,13 +180,14 @@ module _ (check : List ℕ → List ℕ → List ℕ → Verdict) (o : Opening) 
         now = rw u (i .now);
         early = i .early;
         many = simp length-set (i .many);
-        idle = unpaid-on e (t .history) (λ u. let k : ltb (place s) 64 ≡ true = p .0 in let v : ofNone e ≡ false = cc in absurd (clash u v)) (i .idle);
+        divided = each-charged (uncharged (named .pays) 0 steps);
+        idle = each-on Unpaid e (t .history) (λ u. let k : ltb (place s) 64 ≡ true = p .0 in let v : ofNone e ≡ false = cc in absurd (clash u v)) (i .idle);
         stage = λ n q. (each n q) .0;
         once = λ n q. (each n q) .1;
       }
         where
           r : Stepped
-          r = granted named steps
+          r = granted rate named steps
 
           e : Entry
           e = record { string = s; answer = r .answer }
@@ -165,7 +199,7 @@ module _ (check : List ℕ → List ℕ → List ℕ → Verdict) (o : Opening) 
           l = strings (place s) (t .history)
 
           go : Stage (basisOf check (t .book)) (next l s (r .answer) (clock (t .history)) ∷ l) ((planned check hash (t .book) s) .channel) × (has (opcode s) l ≡ false)
-          go = moves l s (r .answer) (clock (t .history)) (channel (t .book) (place s)) (contextOf (t .book)) (i .fixed) (sym (i .now)) ((basisOf check (t .book)) .good) ((basisOf check (t .book)) .leaf) check hash (λ op. (refl, refl)) (opcode s) refl (p .1) refl refl (i .stage (place s) lt)
+          go = moves l s (r .answer) (clock (t .history)) (channel (t .book) (place s)) (contextOf (t .book)) (i .fixed) (sym (i .now)) ((basisOf check (t .book)) .good) ((basisOf check (t .book)) .leaf) check hash (λ op. (refl, refl)) (opcode s) refl (p .1) refl (charged-whole rate (uncharged (named .pays) 0 steps) low) (i .stage (place s) lt)
 
           Q : ℕ → Channel → Type 0
           Q n ch = n < 64 → Stage (basisOf check (t .book)) (strings n (e ∷ t .history)) ch × Once (strings n (e ∷ t .history))
@@ -186,10 +220,10 @@ module _ (check : List ℕ → List ℕ → List ℕ → Verdict) (o : Opening) 
           go true = refl
           go false = each-plan (λ p. coded (p .checks)) (noPlan (channel (t .book) (place s))) (plans check hash (contextOf (t .book)) s (channel (t .book) (place s))) refl (opcode s) (λ _. refl)
 
-      granted-agrees : (steps : ℕ) → Passed checksOf → Agrees check o (recorded t s (granted (order check hash (t .book) s) steps))
+      granted-agrees : (steps : ℕ) → Passed checksOf → Agrees check o (recorded t s (granted rate (order check hash (t .book) s) steps))
       granted-agrees steps p = go (eqb (opcode s) 1) refl (p .1 .1 .1)
         where
-          go : (x : Bool) → eqb (opcode s) 1 ≡ x → Passed ((cond x (setClock (t .book) (time s)) named) .checks) → Agrees check o (recorded t s (granted (cond x (setClock (t .book) (time s)) named) steps))
+          go : (x : Bool) → eqb (opcode s) 1 ≡ x → Passed ((cond x (setClock (t .book) (time s)) named) .checks) → Agrees check o (recorded t s (granted rate (cond x (setClock (t .book) (time s)) named) steps))
           go true z q = clock-agrees steps (eqb-true _ _ z) q
           go false z q =
               let k = and-both (leb 1 (opcode s)) (leb (opcode s) 10) (p .1 .0) in
@@ -220,6 +254,7 @@ fresh-agrees check o e = record {
   many = length-replicate 64 unused;
   stage = λ n p. subst (Stage (basisOf check (fresh o)) []) (sym (getD-replicate 64 n unused noChannel p)) refl;
   idle = λ i p. let z : ⊥ = omega (arith, p) in absurd z;
+  divided = λ i p. let z : ⊥ = omega (arith, p) in absurd z;
   once = λ n p i. omega arith;
 }
 
@@ -240,7 +275,7 @@ module _ (check : List ℕ → List ℕ → List ℕ → Verdict) (hash : List �
         rw (v .code, v .named) (sound-book check o t i, (refl, (eq-eqb (length d) (size 9) (v .whole), (lt-ltb n 64 p, (eq-eqb (c .status) 5 (m .0), (lt-ltb _ _ early, (rw (v .opens, m .1 .closing .lock′) (same-refl _), (rw (i .same, m .1 .terms .signer) (v .good), (rw (i .same, m .1 .terms .signer) (ap not free), tt)))))))))
 
     kept : Accounted check hash o (t .book) (t .history) n (strings n (t .history))
-    unfolding reading readChannel step answer
+    unfolding reading readChannel step answer charged
     kept =
         let f = facts check o t i n p in
         let u : reading (t .book) n ≡ readChannel (channel (t .book) n) = rw (sound-book check o t i, lt-ltb n 64 p) in
@@ -250,6 +285,7 @@ module _ (check : List ℕ → List ℕ → List ℕ → Verdict) (hash : List �
           closes = rw u (f .closes);
           splits = f .splits;
           disputed = f .disputed;
+          divided = i .divided;
           leaf-once = rw (i .same) at (f .leaf-once);
           follows = f .follows;
           signed = rw (i .same) at (f .signed);
@@ -264,7 +300,7 @@ module _ (check : List ℕ → List ℕ → List ℕ → Verdict) (hash : List �
 -- An accepted opening: the book is fresh, and what it keeps is in its limits.
 opened : (lent : Book) (o : Opening) → (opening lent o) .refusal ≡ 0 → ((opening lent o) .book ≡ fresh o) × (soundSetup (setupOf (o .settings)) ≡ true)
 unfolding opening
-opened lent o e = let p = judge-passed (openingChecks o) clean refl e in (rw (eq-eqb _ _ e), p .1 .1 .0)
+opened lent o e = let p = judge-passed (openingChecks o) clean refl e in (rw (eq-eqb _ _ e), and-make (p .1 .1 .0) (p .1 .1 .1 .0))
 
 pub third-demand : (check : List ℕ → List ℕ → List ℕ → Verdict) (hash : List ℕ → List ℕ) → ThirdDemand check hash
 third-demand check hash lent o e l n p =

@@ -1,8 +1,10 @@
--- The starred figures, and those of document 02, No. 2 and No. 5: the rules by computing, the chain steps by the law of `lms`.
-use mathlib.Core.Path.{refl}
+-- The starred figures, and those of document 02, No. 2, No. 5 and No. 7: the rules by computing, the chain steps by the law of `lms`.
+use mathlib.Core.Path.{refl, ap}
 use mathlib.Core.List.{List}
-use Prim.Native.Nat.{ℕ}
+use Prim.Native.Nat.{ℕ, _/_}
+use native.Mathlib.Nat.{mul-zero}
 use native.Mathlib.Omega.{arith}
+use borrow.Author.Tests.{eq-eqb}
 use lib.ListN.{replicate}
 use Rattle.lms.specs.OneTime.{deficit}
 use Rattle.lms.proofs.StepLaw.{stepLaw}
@@ -10,10 +12,13 @@ use Rattle.machine.specs.Book.{total, held, readChannel}
 use Rattle.machine.specs.Checks.{ask}
 use Rattle.machine.specs.Rules.{establish, fundCustomer, fundMerchant, reclaim, mutualClose, customerClose, merchantClose, dispute, settle}
 use Rattle.machine.specs.Machine.{answer, concluded, ruling}
-use Rattle.machine.specs.Figures.{Figures}
+use Rattle.machine.specs.Opening.{fresh, opening}
+use Rattle.machine.specs.Figures.{Figures, FeeFigures}
 use Rattle.machine.specs.declared.state.Leaves.{Leaves}
 use Rattle.machine.specs.declared.state.Setup.{Setup}
+use Rattle.machine.specs.declared.state.Book.{Book}
 use Rattle.wire.proofs.Laws.{same-refl}
+use Rattle.machine.proofs.Fees.{fee-bound}
 
 pub figures : (key other lock id : List ℕ) (d x v w q : ℕ) (used : Leaves) (setup : Setup) → Figures key other lock id d x v w q used setup
 unfolding deficit total held readChannel ask establish fundCustomer fundMerchant reclaim mutualClose customerClose merchantClose dispute settle answer concluded ruling
@@ -48,4 +53,23 @@ figures key other lock id d x v w q used setup = record {
   disputes-with-free-0 = rw (same-refl lock);
   steps-of-FF = stepLaw .law (replicate 32 255) refl;
   steps-of-00 = stepLaw .law (replicate 32 0) refl;
+}
+
+pub fee-figures : (lent : Book) (id : List ℕ) → FeeFigures lent id
+unfolding ask opening fresh
+fee-figures lent id = record {
+  of-300 = refl;
+  of-700 = refl;
+  of-1000 = refl;
+  bound-least = (fee-bound 250 300 700) .least;
+  bound-most = (fee-bound 250 300 700) .most;
+  of-9999 = refl;
+  of-10000 = refl;
+  of-9 = refl;
+  of-10 = refl;
+  of-most = refl;
+  of-none = λ amount. rw (mul-zero amount);
+  default-first = λ e. rw (eq-eqb _ _ e);
+  dear = λ e. rw (eq-eqb _ _ e);
+  dearest = λ e. rw (eq-eqb _ _ e);
 }

@@ -1,5 +1,5 @@
--- Document 01, "Book": T, held, soundness, readings; document 02, No. 1: the default that a sound book keeps in its range; No. 5: the leaves
--- that a channel remembers.
+-- Document 01, "Book": T, held, soundness, readings; document 02, No. 1 and No. 7: the default and the fee that a sound book keeps in their
+-- limits; No. 5: the leaves that a channel remembers.
 use mathlib.Core.Bool.{Bool, true, cond, not, _&&_, _||_}
 use mathlib.Core.List.{List, [], _∷_}
 use Prim.Native.Nat.{ℕ, _+_, _-_, _^_}
@@ -37,9 +37,13 @@ longest = 2592000
 abbrev pub ranged : ℕ → Bool
 ranged d = leb shortest d && leb d longest
 
+-- The highest fee, in ten-thousandths.
+abbrev pub highest : ℕ
+highest = 1000
+
 -- The number of the book's layout: a landing that changes the book changes it.
 abbrev pub layout : ℕ
-layout = 4
+layout = 5
 
 -- The mark of a layout: "arbiter" in bytes, then its number.
 abbrev pub markOf : ℕ → ℕ
@@ -93,7 +97,7 @@ all p (x ∷ l) = p x && all p l
 
 -- What the opening fixed is in its limits.
 abbrev pub soundSetup : Setup → Bool
-soundSetup s = ranged (s .delay)
+soundSetup s = ranged (s .delay) && leb (s .fee) highest
 
 unfoldable pub sound : Book → Bool
 sound b = eqb (b .mark) theMark && leb (b .clock .0) limit && soundSetup (b .setup) && all soundChannel (b .channels)

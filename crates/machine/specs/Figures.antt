@@ -1,19 +1,22 @@
 -- Document 01, "Figures at the edges": the starred rows, on the rules with verdicts given. Document 02, No. 2: rows of an account that only
--- the merchant funds; No. 5: rows of disputes by their leaf.
+-- the merchant funds; No. 5: rows of disputes by their leaf; No. 7: fees.
 use mathlib.Core.Path.{_≡_}
 use mathlib.Core.Bool.{true, false}
 use mathlib.Core.List.{List}
-use Prim.Native.Nat.{ℕ, _-_, _^_}
-use lib.ListN.{replicate}
+use Prim.Native.Nat.{ℕ, _+_, _-_, _^_, _≤_}
+use lib.ListN.{length, replicate}
 use Rattle.lms.specs.OneTime.{stepCount}
 use Rattle.machine.specs.Book.{cents, seconds, party, remembered, readChannel}
 use Rattle.machine.specs.Checks.{Verdict}
+use Rattle.machine.specs.Opening.{under, fresh, opening}
+use Rattle.machine.specs.Fee.{feeOf}
 use Rattle.machine.specs.Rules.{Plan, keyed, establish, fundCustomer, fundMerchant, reclaim, mutualClose, customerClose, merchantClose, dispute, settle}
 use Rattle.machine.specs.Machine.{ruling}
 use Rattle.machine.specs.declared.state.Leaves.{Leaves}
 use Rattle.machine.specs.declared.state.Channel.{Channel}
 use Rattle.machine.specs.declared.state.Context.{Context}
 use Rattle.machine.specs.declared.state.Setup.{Setup}
+use Rattle.machine.specs.declared.state.Book.{Book}
 use Rattle.machine.specs.declared.answers.Ruled.{Ruled}
 
 -- What a row shows: refusal and payments, then the reading's status, held and deadline.
@@ -127,3 +130,21 @@ module _ (key other lock id : List ℕ) (d x v w q : ℕ) (used : Leaves) (setup
     pub disputes-with-free-0 : by (disputes 4599 0) (left (closes 9) (example 3 d x)) ≡ row 0 0 700 6 0 0
     pub steps-of-FF : stepCount (replicate 32 255) ≡ 510
     pub steps-of-00 : stepCount (replicate 32 0) ≡ 8415
+
+-- The fee of 300 and 700 by 250 ten-thousandths, of both at once, and the bound between them; the smallest amount with a fee of a cent; the
+-- largest amount at the highest fee. Openings with the id of any length 16: a wrong default is told before a wrong fee.
+pub record FeeFigures (lent : Book) (id : List ℕ) : Type 0 where
+  pub of-300 : feeOf 250 300 ≡ 7
+  pub of-700 : feeOf 250 700 ≡ 17
+  pub of-1000 : feeOf 250 1000 ≡ 25
+  pub bound-least : 7 + 17 ≤ 25
+  pub bound-most : 25 ≤ 7 + 17 + 1
+  pub of-9999 : feeOf 1 9999 ≡ 0
+  pub of-10000 : feeOf 1 10000 ≡ 1
+  pub of-9 : feeOf 1000 9 ≡ 0
+  pub of-10 : feeOf 1000 10 ≡ 1
+  pub of-most : feeOf 1000 (2 ^ 63 - 1) ≡ 922337203685477580
+  pub of-none : (amount : ℕ) → feeOf 0 amount ≡ 0
+  pub default-first : length id ≡ 16 → (opening lent (under (record { delay = 3599; fee = 1001 }) id)) .refusal ≡ 14
+  pub dear : length id ≡ 16 → (opening lent (under (record { delay = 3600; fee = 1001 }) id)) .refusal ≡ 20
+  pub dearest : length id ≡ 16 → opening lent (under (record { delay = 3600; fee = 1000 }) id) ≡ record { book = fresh (under (record { delay = 3600; fee = 1000 }) id); refusal = 0 }

@@ -1,4 +1,4 @@
--- Document 01, "What a closed channel paid" and the mission's third demand, with document 02, No. 1 and No. 5: its words, read from the
+-- Document 01, "What a closed channel paid" and the mission's third demand, with document 02, No. 1, No. 5 and No. 7: its words, read from the
 -- opening, the strings and their answers, and the one claim about the whole list.
 use mathlib.Core.Path.{_≡_}
 use mathlib.Core.Bool.{Bool, true, false, cond, not, _&&_, _||_}
@@ -11,6 +11,7 @@ use Rattle.machine.specs.Book.{cents, reading}
 use Rattle.machine.specs.Opening.{Opening, opening}
 use Rattle.machine.specs.Checks.{Verdict}
 use Rattle.machine.specs.Rules.{delayed}
+use Rattle.machine.specs.Fee.{feeOf}
 use Rattle.machine.specs.Machine.{step}
 use Rattle.machine.specs.declared.state.Book.{Book}
 use Rattle.machine.specs.declared.answers.Answer.{Answer}
@@ -50,21 +51,31 @@ strings n (e ∷ h) =
 abbrev pub ofNone : Entry → Bool
 ofNone e = not (accepted e && (ofChannel (e .string) && ltb (place (e .string)) 64))
 
--- Cents to each side.
+-- The three kinds of payment: cents to each side, and the fee.
 pub record Paid : Type 0 where
   pub customer : ℕ
   pub merchant : ℕ
+  pub fee : ℕ
 
--- What an answer pays to each side.
+-- What an answer pays.
 abbrev pub paidBy : Answer → Paid
-paidBy a = record { customer = a .customer .0; merchant = a .merchant .0 }
+paidBy a = record { customer = a .customer .0; merchant = a .merchant .0; fee = a .fee .0 }
 
 abbrev pub nothing : Paid
-nothing = record { customer = 0; merchant = 0 }
+nothing = record { customer = 0; merchant = 0; fee = 0 }
+
+-- The figures of a split.
+pub record Shares : Type 0 where
+  pub customer : ℕ
+  pub merchant : ℕ
+
+-- In every split the merchant's figure is merchant plus fee.
+abbrev pub shares : Paid → Shares
+shares p = record { customer = p .customer; merchant = p .merchant + p .fee }
 
 -- An answer of zeros, which stands past the end of a history.
 abbrev pub noAnswer : Answer
-noAnswer = record { customer = cents 0; merchant = cents 0; steps = 0; refusal = 0 }
+noAnswer = record { customer = cents 0; merchant = cents 0; steps = 0; refusal = 0; fee = cents 0 }
 
 -- The entry at a place of a history.
 abbrev pub entryAt : List Entry → ℕ → Entry
@@ -83,9 +94,13 @@ deposit e = cond (eqb (opcode (e .string)) 3 || eqb (opcode (e .string)) 4) (amo
 abbrev pub deposits : List Event → ℕ
 deposits l = sum deposit l
 
--- Paid to each side: the sums of these fields in the answers.
+-- Paid to each side, and the fee: the sums of these fields in the answers.
 abbrev pub paid : List Event → Paid
-paid l = record { customer = sum (λ e. e .answer .customer .0) l; merchant = sum (λ e. e .answer .merchant .0) l }
+paid l = record {
+  customer = sum (λ e. e .answer .customer .0) l;
+  merchant = sum (λ e. e .answer .merchant .0) l;
+  fee = sum (λ e. e .answer .fee .0) l;
+}
 
 -- Their opcodes: is there one, and how many are there?
 unfoldable pub opcodes : List Event → List ℕ
@@ -132,21 +147,25 @@ abbrev pub agreedDelay : Opening → List Event → ℕ
 agreedDelay o l = delayed (o .settings .delay) (delay ((eventOf 2 l) .string))
 
 -- c and b of the accepted 06 or 07.
-abbrev pub parts : ℕ → List Event → Paid
+abbrev pub parts : ℕ → List Event → Shares
 parts op l = record { customer = customerPart op ((eventOf op l) .string); merchant = merchantPart op ((eventOf op l) .string) }
 
-abbrev pub allMerchant : List Event → Paid
+abbrev pub allMerchant : List Event → Shares
 allMerchant l = record { customer = 0; merchant = agreedTotal l }
 
 -- 05: D_c, 0. 06: c, b. 07 then 0A: c, b. 07 then 09: 0, T. 08 then 0A: 0, T. A 07 that answers an 08 counts as 07.
-abbrev pub split : List Event → Paid
+abbrev pub split : List Event → Shares
 split l =
     cond (has 5 l) (record { customer = agreedCustomer l; merchant = 0 })
     (cond (has 6 l) (parts 6 l)
     (cond (has 7 l && has 10 l) (parts 7 l)
     (cond (has 7 l && has 9 l) (allMerchant l)
     (cond (has 8 l && has 10 l) (allMerchant l)
-    nothing))))
+    (shares nothing)))))
+
+-- A payment to the merchant, his part and the fee together: the fee is r ten-thousandths of it.
+abbrev pub Divided : ℕ → Paid → Type 0
+Divided r p = p .fee ≡ feeOf r ((shares p) .merchant)
 
 -- A customer's closing is before its deadline: an accepted 07, no accepted 09 or 0A, and the clock after the list is early.
 pub record Timely (o : Opening) (l : List Event) (now : ℕ) : Type 0 where
@@ -203,10 +222,12 @@ module _ (check : List ℕ → List ℕ → List ℕ → Verdict) (hash : List �
   -- Of channel n of a book with this opening and history, where l are the strings of n.
   pub record Accounted (o : Opening) (b : Book) (h : List Entry) (n : ℕ) (l : List Event) : Type 0 where
     pub read : (reading b n) .refusal ≡ 0
-    pub conserved : deposits l ≡ (reading b n) .held .0 + (paid l) .customer + (paid l) .merchant
+    pub conserved : deposits l ≡ (reading b n) .held .0 + (paid l) .customer + (paid l) .merchant + (paid l) .fee
     pub closes : closed l ≡ eqb ((reading b n) .status) 6
-    pub splits : closed l ≡ true → paid l ≡ split l
-    pub disputed : has 9 l ≡ true → paid l ≡ allMerchant l
+    pub splits : closed l ≡ true → shares (paid l) ≡ split l
+    pub disputed : has 9 l ≡ true → shares (paid l) ≡ allMerchant l
+    -- each payment to the merchant is divided by itself, by the fee that the opening gave
+    pub divided : (i : ℕ) → i < length h → Divided (o .settings .fee) (paidBy ((entryAt h i) .answer))
     pub elsewhere : (i : ℕ) → i < length h → ofNone (entryAt h i) ≡ true → paidBy ((entryAt h i) .answer) ≡ nothing
     pub dispute : Timely o l (clock h) → (d : List ℕ) → Disputes o n l d → (step check hash b d) .answer .refusal ≡ 0
     pub leaf-once : has 9 l ≡ true → Unspent (leafOf check o l) l ((eventOf 9 l) .string)

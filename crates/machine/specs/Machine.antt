@@ -1,4 +1,5 @@
--- Document 01, "Commands" and "Checks, in this order": one command on the lent book. Generic in the signature check and the hash.
+-- Document 01, "Commands" and "Checks, in this order": one command on the lent book; document 02, No. 7: its fee. Generic in the signature
+-- check and the hash.
 use mathlib.Core.Bool.{false, cond, _&&_}
 use mathlib.Core.List.{List, [], _∷_}
 use Prim.Native.Nat.{ℕ, _+_}
@@ -7,6 +8,7 @@ use lib.Dec.{eqb, leb, ltb}
 use Rattle.machine.specs.Format.{opcode, size, time, place, customerKey, merchantKey, customerDeposit, merchantDeposit, delay, amount, lock, secret, signatures, signature, customerPart, merchantPart, message}
 use Rattle.machine.specs.Book.{cents, party, limit, sound, channel, withChannel, withClock}
 use Rattle.machine.specs.Checks.{Check, test, Verdict, clean, passed, judge}
+use Rattle.machine.specs.Fee.{charged}
 use Rattle.machine.specs.Rules.{Payment, pay, Plan, establish, fundCustomer, fundMerchant, reclaim, mutualClose, customerClose, merchantClose, dispute, settle}
 use Rattle.machine.specs.declared.units.Cents.{Cents}
 use Rattle.machine.specs.declared.state.Party.{Party}
@@ -18,13 +20,14 @@ use Rattle.machine.specs.declared.answers.Judged.{Judged}
 use Rattle.machine.specs.declared.answers.Ruled.{Ruled}
 use Rattle.machine.specs.declared.answers.Stepped.{Stepped}
 
--- A refused command pays 0 and 0, and counts the steps of the signature checks made.
+-- A refused command pays 0 and 0, and counts the steps of the signature checks made. No fee is taken yet.
 unfoldable pub answer : Judged → Cents → Cents → Answer
 answer j customer merchant = record {
   customer = cond (passed j) customer (cents 0);
   merchant = cond (passed j) merchant (cents 0);
   steps = j .steps;
   refusal = j .refusal;
+  fee = cents 0;
 }
 
 -- A plan on one channel: a refused command changes nothing.
@@ -72,9 +75,9 @@ formed s own =
 abbrev pub shared : Book → List ℕ → List Check → List Check
 shared b s own = test 99 (sound b) ∷ formed s own
 
--- An order on the book: a refused command changes nothing.
+-- An order on the book: a refused command changes nothing. The merchant's payment is divided by the book's fee.
 abbrev pub carried : Judged → Book → Order → Stepped
-carried j b o = record { book = cond (passed j) (o .book) b; answer = answer j (o .pays .customer) (o .pays .merchant) }
+carried j b o = record { book = cond (passed j) (o .book) b; answer = charged (b .setup .fee) (answer j (o .pays .customer) (o .pays .merchant)) }
 
 -- What the rules read of a book.
 abbrev pub contextOf : Book → Context

@@ -1,10 +1,10 @@
--- Document 01, "Book" and "Checks": the opening; document 02, No. 1: the default delay that it may give.
+-- Document 01, "Book" and "Checks": the opening; document 02, No. 1 and No. 7: the default delay and the fee that it may give.
 use mathlib.Core.Bool.{cond}
 use mathlib.Core.List.{List, [], _∷_}
 use Prim.Native.Nat.{ℕ}
 use lib.ListN.{length, replicate}
-use lib.Dec.{eqb}
-use Rattle.machine.specs.Book.{cents, seconds, party, theMark, ranged, leaves}
+use lib.Dec.{eqb, leb}
+use Rattle.machine.specs.Book.{cents, seconds, party, theMark, ranged, highest, leaves}
 use Rattle.machine.specs.Checks.{Check, test, clean, passed, judge}
 use Rattle.machine.specs.declared.state.Channel.{Channel}
 use Rattle.machine.specs.declared.state.Settings.{Settings}
@@ -23,10 +23,10 @@ under settings id = record { id = id; settings = settings }
 
 -- The settings of the plain opening, and those that the desk opens new books with.
 abbrev pub plainSettings : Settings
-plainSettings = record { delay = 86400 }
+plainSettings = record { delay = 86400; fee = 0 }
 
 abbrev pub deskSettings : Settings
-deskSettings = record { delay = 172800 }
+deskSettings = record { delay = 172800; fee = 0 }
 
 abbrev pub plainly : List ℕ → Opening
 plainly id = under plainSettings id
@@ -37,12 +37,13 @@ abbrev pub openingChecks : Opening → List Check
 openingChecks o =
     test 2 (eqb (length (o .id)) 16)
     ∷ test 14 (ranged (o .settings .delay))
+    ∷ test 20 (leb (o .settings .fee) highest)
     ∷ []
 
 -- ---- a fresh book: the id, what it keeps of the settings, and status 0 and zeros in every channel
 
 abbrev pub setupOf : Settings → Setup
-setupOf s = record { delay = s .delay }
+setupOf s = record { delay = s .delay; fee = s .fee }
 
 abbrev pub unused : Channel
 unused = record {
@@ -67,4 +68,4 @@ opening lent o =
 
 -- A book to lend: zeros, and no mark.
 abbrev pub blankBook : Book
-blankBook = record { mark = 0; id = replicate 16 0; setup = record { delay = 0 }; clock = seconds 0; channels = replicate 64 unused }
+blankBook = record { mark = 0; id = replicate 16 0; setup = record { delay = 0; fee = 0 }; clock = seconds 0; channels = replicate 64 unused }

@@ -12,7 +12,8 @@ use Rattle.machine.specs.Book.{cents, seconds, limit, layout, markOf, to
 use Rattle.machine.specs.Checks.{Verdict, Check, numberOf}
 use Rattle.machine.specs.Opening.{Opening, fresh, opening}
 use Rattle.machine.specs.Due.{none, due}
-use Rattle.machine.specs.Rules.{Plan, keyed, delayFits, establish, fundCustomer, fundMerchant, reclaim, mutualClose, customerClose, merchantClose, dispute, settle}
+use Rattle.machine.specs.Fee.{feeOf}
+use Rattle.machine.specs.Rules.{Payment, Plan, keyed, delayFits, establish, fundCustomer, fundMerchant, reclaim, mutualClose, customerClose, merchantClose, dispute, settle}
 use Rattle.machine.specs.Machine.{ruling, formed, order, step}
 use Rattle.machine.specs.declared.state.Party.{Party}
 use Rattle.machine.specs.declared.state.Channel.{Channel}
@@ -22,9 +23,9 @@ use Rattle.machine.specs.declared.answers.Answer.{Answer}
 use Rattle.machine.specs.declared.answers.Opened.{Opened}
 
 abbrev pub refusal : ℕ → ℕ → Answer
-refusal r steps = record { customer = cents 0; merchant = cents 0; steps = steps; refusal = r }
+refusal r steps = record { customer = cents 0; merchant = cents 0; steps = steps; refusal = r; fee = cents 0 }
 
--- What a rule answers on a channel.
+-- What a rule answers on a channel, before the fee.
 abbrev pub answered : Channel → Plan → Answer
 answered ch p = (ruling ch p) .answer
 
@@ -76,18 +77,27 @@ pub record DisputesByLeaf (at : Context) (hashed : List ℕ) (v : Verdict) (ch :
   pub first : v .good ≡ true → v .leaf ≡ ch .leaves .first → answered ch (dispute at hashed v ch) ≡ refusal 16 (v .steps)
   pub second : v .good ≡ true → v .leaf ≡ ch .leaves .second → answered ch (dispute at hashed v ch) ≡ refusal 16 (v .steps)
   pub other : v .good ≡ true → (v .leaf ≡ ch .leaves .first → ⊥) → (v .leaf ≡ ch .leaves .second → ⊥)
-      → answered ch (dispute at hashed v ch) ≡ record { customer = cents 0; merchant = ch .kept; steps = v .steps; refusal = 0 }
+      → answered ch (dispute at hashed v ch) ≡ record { customer = cents 0; merchant = ch .kept; steps = v .steps; refusal = 0; fee = cents 0 }
 
 abbrev pub notOpened : Book → ℕ → Opened
 notOpened lent r = record { book = lent; refusal = r }
 
--- The id is looked at before the default. Refused, an opening keeps the lent book; accepted, the book keeps the default that was given.
+-- The id is looked at before the default, and the default before the fee. Refused, an opening keeps the lent book; accepted, the book keeps the
+-- default and the fee that were given.
 pub record Opens (lent : Book) (o : Opening) : Type 0 where
   pub id-first : (length (o .id) ≡ 16 → ⊥) → opening lent o ≡ notOpened lent 2
   pub short : length (o .id) ≡ 16 → o .settings .delay < 3600 → opening lent o ≡ notOpened lent 14
   pub long : length (o .id) ≡ 16 → 2592000 < o .settings .delay → opening lent o ≡ notOpened lent 14
-  pub accepted : length (o .id) ≡ 16 → 3600 ≤ o .settings .delay → o .settings .delay ≤ 2592000 → opening lent o ≡ record { book = fresh o; refusal = 0 }
+  pub dear : length (o .id) ≡ 16 → 3600 ≤ o .settings .delay → o .settings .delay ≤ 2592000 → 1000 < o .settings .fee → opening lent o ≡ notOpened lent 20
+  pub accepted : length (o .id) ≡ 16 → 3600 ≤ o .settings .delay → o .settings .delay ≤ 2592000 → o .settings .fee ≤ 1000 → opening lent o ≡ record { book = fresh o; refusal = 0 }
   pub default : (fresh o) .setup .delay ≡ o .settings .delay
+  pub fee : (fresh o) .setup .fee ≡ o .settings .fee
+
+-- The customer has all that a rule pays him. The merchant's payment is divided by itself: the fee, and the rest to him.
+pub record Divides (r : ℕ) (p : Payment) (a : Answer) : Type 0 where
+  pub customer : a .customer ≡ p .customer
+  pub fee : a .fee .0 ≡ feeOf r (p .merchant .0)
+  pub whole : a .merchant .0 + a .fee .0 ≡ p .merchant .0
 
 module _ (check : List ℕ → List ℕ → List ℕ → Verdict) (hash : List ℕ → List ℕ) where
   -- An unsound book says 99 before everything, also to the empty string; it is read as 99, and none of it is due.
@@ -98,14 +108,16 @@ module _ (check : List ℕ → List ℕ → List ℕ → Verdict) (hash : List �
 
   pub record WrongTurns : Type 0 where
     pub unsound : (b : Book) → sound b ≡ false → Unsound b
-    -- A book of another layout is unsound, and so is one whose default is out of range.
+    -- A book of another layout is unsound, and so is one whose default or fee is out of range.
     pub other-layout : (b : Book) (n : ℕ) → b .mark ≡ markOf n → (n ≡ layout → ⊥) → Unsound b
     pub short-default : (b : Book) → b .setup .delay < 3600 → Unsound b
     pub long-default : (b : Book) → 2592000 < b .setup .delay → Unsound b
+    pub dear-fee : (b : Book) → 1000 < b .setup .fee → Unsound b
     pub opens : (lent : Book) (o : Opening) → Opens lent o
-    -- A refused command pays 0 and 0 and changes no value of the book.
+    -- A refused command pays 0, 0 and 0 and changes no value of the book.
     pub refused : (b : Book) (s : List ℕ) → ((step check hash b s) .answer .refusal ≡ 0 → ⊥)
         → step check hash b s ≡ record { book = b; answer = refusal ((step check hash b s) .answer .refusal) ((step check hash b s) .answer .steps) }
+    pub divides : (b : Book) (s : List ℕ) → (step check hash b s) .answer .refusal ≡ 0 → Divides (b .setup .fee) ((order check hash b s) .pays) ((step check hash b s) .answer)
     -- T is 0 in status 0, whatever the fields hold.
     pub unused : (ch : Channel) → ch .status ≡ 0 → (readChannel ch) .total ≡ cents 0
     pub establishes : (at : Context) (customer merchant : Party) (ch : Channel) → Establishes at customer merchant ch

@@ -4,13 +4,14 @@ use crate::state::Channel;
 use crate::units::Cents;
 use crate::units::Seconds;
 
-// What a command answers: the refusal, or 0; what it paid to each side; the chain steps.
+// What a command answers: the refusal, or 0; what it paid to each side; the chain steps; the fee that the desk kept of the merchant's payment.
 #[repr(C)]
 pub struct Answer {
     pub customer: Cents,
     pub merchant: Cents,
     pub steps: u32,
     pub refusal: u32,
+    pub fee: Cents,
 }
 
 // What the checks made so far come to.

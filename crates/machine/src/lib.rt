@@ -13,6 +13,7 @@ pub use answers::Ruled;
 pub use answers::Sealed;
 pub use answers::Soonest;
 pub use answers::Stepped;
+pub use limits::HIGHEST;
 pub use limits::LAYOUT;
 pub use limits::LIMIT;
 pub use limits::LONGEST;

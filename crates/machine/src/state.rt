@@ -29,16 +29,18 @@ pub struct Channel {
     pub leaves: Leaves,
 }
 
-// What an opening is given: the delay that a 0 in a 02 stands for.
+// What an opening is given: the delay that a 0 in a 02 stands for, and the fee in ten-thousandths.
 #[repr(C)]
 pub struct Settings {
     pub delay: u32,
+    pub fee: u32,
 }
 
 // What a book keeps of its opening. Whole words, so that no hole comes before the clock.
 #[repr(C)]
 pub struct Setup {
-    pub delay: u64,
+    pub delay: u32,
+    pub fee: u32,
 }
 
 // The mark says that an opening wrote the book.

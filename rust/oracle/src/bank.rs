@@ -1,4 +1,5 @@
-//! Bank lines in packed decimal, of document 02 No. 6.
+//! Bank lines in packed decimal, of document 02 No. 6. The fee of its No. 7 is a payment to neither
+//! party.
 use crate::book::CHANNELS;
 use crate::command::Command;
 use crate::journal::next;
@@ -29,8 +30,8 @@ pub struct Counted {
     pub payments: usize,
 }
 
-/// Collects a run's payments above zero, in the order of its commands, the customer's first. A list
-/// that is too short gives 18.
+/// Collects a run's payments above zero, in the order of its commands, the customer's first, the
+/// merchant's without the fee. A list that is too short gives 18.
 pub fn collect(commands: &[u8], lines: &[Answer], list: &mut [Payment]) -> Counted {
     let mut rest = commands;
     let mut payments = Vec::new();

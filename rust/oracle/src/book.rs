@@ -1,5 +1,5 @@
 //! The book, its channels and when it is sound; by document 02 No. 1 an opening gives the default
-//! delay, by its No. 5 a channel remembers leaves.
+//! delay, by its No. 5 a channel remembers leaves, by its No. 7 an opening gives the rate of the fee.
 use std::ops::RangeInclusive;
 
 /// Channels of a book.
@@ -16,6 +16,10 @@ pub const DELAYS: RangeInclusive<u32> = SHORTEST_DELAY..=LONGEST_DELAY;
 pub const PLAIN_DEFAULT: u32 = 86_400;
 /// The default of the desk's new books, of document 02 No. 1.
 pub const DESK_DEFAULT: u32 = 172_800;
+/// The highest rate of the fee, of document 02 No. 7, in ten-thousandths.
+pub const HIGHEST_RATE: u32 = 1_000;
+/// The rate of the plain opening.
+pub const PLAIN_RATE: u32 = 0;
 
 /// One side of a channel.
 #[derive(Clone, Copy, Debug, PartialEq, Eq)]
@@ -66,6 +70,8 @@ pub struct Book {
     pub id: [u8; 16],
     /// What a delay of 0 in 02 stands for, of document 02 No. 1.
     pub default_delay: u32,
+    /// What the desk keeps of each payment to the merchant, r of document 02 No. 7.
+    pub rate: u32,
     /// The clock.
     pub clock: u64,
     /// The channels by their numbers.
@@ -129,6 +135,7 @@ impl Book {
             marked: true,
             id,
             default_delay: PLAIN_DEFAULT,
+            rate: PLAIN_RATE,
             clock: 0,
             channels: [Channel::UNUSED; CHANNELS],
         }
@@ -137,29 +144,35 @@ impl Book {
     /// The plain opening: makes the book fresh and answers 0; an id that is not 16 bytes long gives
     /// 2.
     pub fn open(&mut self, id: &[u8]) -> u8 {
-        self.open_with(id, PLAIN_DEFAULT)
+        self.open_with(id, PLAIN_DEFAULT, PLAIN_RATE)
     }
 
-    /// The opening of document 02 No. 1, which gives its default: one out of range gives 14, after
-    /// the id.
-    pub fn open_with(&mut self, id: &[u8], default_delay: u32) -> u8 {
+    /// The opening that gives its default, of document 02 No. 1, and its rate, of No. 7: after the
+    /// id, a default out of range gives 14, then a rate above 1,000 gives 20.
+    pub fn open_with(&mut self, id: &[u8], default_delay: u32, rate: u32) -> u8 {
         let Ok(id) = id.try_into() else {
             return 2;
         };
         if !DELAYS.contains(&default_delay) {
             return 14;
         }
+        if rate > HIGHEST_RATE {
+            return 20;
+        }
         *self = Book {
             default_delay,
+            rate,
             ..Book::fresh(id)
         };
         0
     }
 
-    /// Whether the book is sound. The default is a value set at opening, so its limit is kept.
+    /// Whether the book is sound. Default and rate are values set at opening, so their limits are
+    /// kept.
     pub fn sound(&self) -> bool {
         self.marked
             && DELAYS.contains(&self.default_delay)
+            && self.rate <= HIGHEST_RATE
             && self.clock <= LARGEST
             && self.channels.iter().all(Channel::sound)
     }

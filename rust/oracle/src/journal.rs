@@ -66,8 +66,13 @@ pub fn statement(input: &[u8]) -> String {
             customer,
             merchant,
             steps,
+            fee,
         } = line;
-        writeln!(text, "{number} {refusal} {customer} {merchant} {steps}").unwrap();
+        writeln!(
+            text,
+            "{number} {refusal} {customer} {merchant} {steps} {fee}"
+        )
+        .unwrap();
     }
     writeln!(text, "end {} {}", ran.used, ran.cause).unwrap();
     text

@@ -1,10 +1,11 @@
-//! Document 01, document 02 No. 1, 2 and 5 where these say otherwise, and its No. 4 and 6, in plain
-//! Rust, written from the papers alone, to compare the library with.
+//! Document 01, document 02 No. 1, 2, 5 and 7 where these say otherwise, and its No. 4 and 6, in
+//! plain Rust, written from the papers alone, to compare the library with.
 
 pub mod bank;
 mod book;
 mod check;
 mod command;
+mod fee;
 mod journal;
 mod machine;
 mod one_time;
@@ -16,14 +17,17 @@ mod till;
 mod tree;
 
 #[cfg(test)]
+mod figures;
+#[cfg(test)]
 mod vectors;
 
 pub use book::{
-    Book, Channel, Party, Remembered, CHANNELS, DELAYS, DESK_DEFAULT, LARGEST, LONGEST_DELAY,
-    PLAIN_DEFAULT, SHORTEST_DELAY,
+    Book, Channel, Party, Remembered, CHANNELS, DELAYS, DESK_DEFAULT, HIGHEST_RATE, LARGEST,
+    LONGEST_DELAY, PLAIN_DEFAULT, PLAIN_RATE, SHORTEST_DELAY,
 };
 pub use check::{check, Verdict, SIGNATURE, TYPES};
 pub use command::{length, Command, Order};
+pub use fee::fee;
 pub use journal::{run, statement, Ran};
 pub use machine::{apply, noes, Answer};
 pub use one_time::Place;

@@ -1,9 +1,10 @@
 //! A command on a book: checks, then what it changes and pays. A delay of 0 is read as document 02
 //! No. 1 has it, a customer who deposits nothing as its No. 2, a leaf that is used again as its
-//! No. 5.
+//! No. 5; a payment to the merchant is divided as its No. 7 has it.
 use crate::book::{Book, Channel, Party};
 use crate::check::check;
 use crate::command::{Command, Order};
+use crate::fee::fee;
 use crate::rules::{self, named};
 
 /// What a command answers.
@@ -13,10 +14,12 @@ pub struct Answer {
     pub refusal: u8,
     /// Cents paid to the customer.
     pub customer: u64,
-    /// Cents paid to the merchant.
+    /// Cents paid to the merchant, without the fee.
     pub merchant: u64,
     /// Chain steps of the signature checks made.
     pub steps: u32,
+    /// Cents that the desk keeps of the payment to the merchant.
+    pub fee: u64,
 }
 
 /// Carries a command out, or refuses it.
@@ -24,12 +27,14 @@ pub fn apply(book: &mut Book, bytes: &[u8]) -> Answer {
     let mut steps = 0;
     match accepted(book, bytes, &mut steps) {
         Ok((command, leaf)) => {
-            let (customer, merchant) = carry_out(book, &command, leaf);
+            let (customer, amount) = carry_out(book, &command, leaf);
+            let fee = fee(amount, book.rate);
             Answer {
                 refusal: 0,
                 customer,
-                merchant,
+                merchant: amount - fee,
                 steps,
+                fee,
             }
         }
         Err(refusal) => Answer {
@@ -83,8 +88,8 @@ pub fn noes(book: &Book, bytes: &[u8]) -> Vec<u8> {
     }
 }
 
-/// Changes the book and gives what is paid to customer and merchant; `leaf` is that of the
-/// merchant's signature.
+/// Changes the book and gives what is paid to customer and merchant, the fee included; `leaf` is
+/// that of the merchant's signature.
 fn carry_out(book: &mut Book, command: &Command, leaf: Option<u32>) -> (u64, u64) {
     if let Order::Clock { time } = command.order {
         book.clock = time;
@@ -101,7 +106,7 @@ fn carry_out(book: &mut Book, command: &Command, leaf: Option<u32>) -> (u64, u64
     paid
 }
 
-/// What a command pays to customer and merchant.
+/// What a command pays to customer and merchant, the fee included.
 fn payment(channel: &Channel, order: Order) -> (u64, u64) {
     match (order, channel.status) {
         (Order::Reclaim, _) => (channel.customer.deposit, 0),

@@ -15,12 +15,13 @@ const fn payment([party, channel, amount]: [u64; 3]) -> Payment {
     }
 }
 
-fn line([refusal, customer, merchant, steps]: [u64; 4]) -> Answer {
+fn line([refusal, customer, merchant, steps, fee]: [u64; 5]) -> Answer {
     Answer {
         refusal: refusal as u8,
         customer,
         merchant,
         steps: steps as u32,
+        fee,
     }
 }
 
@@ -88,7 +89,7 @@ fn any_numbers() {
     }
 }
 
-/// Every command but 01 has its payments, with n as it stands there.
+/// Every command but 01 has its payments, with n as it stands there, and the fee is none.
 #[test]
 fn every_command() {
     let both = [[1, 65_535, 7], [2, 65_535, u64::MAX]].map(payment);
@@ -97,7 +98,7 @@ fn every_command() {
         command[0] = first;
         let expected = if first == 1 { &[][..] } else { &both };
         let mut list = [FORMER; 3];
-        let counted = collect(&command, &[line([16, 7, u64::MAX, 0]); 2], &mut list);
+        let counted = collect(&command, &[line([16, 7, u64::MAX, 0, 9]); 2], &mut list);
         assert_eq!((counted.refusal, counted.payments), (0, expected.len()));
         assert!(list.starts_with(expected));
         assert!(list[expected.len()..].iter().all(|entry| *entry == FORMER));

@@ -2,8 +2,8 @@
 
 /// What is called, with what it is given to read.
 pub enum Call {
-    /// Commands, and of each line refusal, customer, merchant and steps.
-    Collect(Vec<u8>, Vec<[u64; 4]>),
+    /// Commands, and of each line refusal, customer, merchant, steps and fee.
+    Collect(Vec<u8>, Vec<[u64; 5]>),
     /// A list.
     Write(Vec<[u64; 3]>),
     /// Bytes.
@@ -67,13 +67,12 @@ fn bytes(hex: &str) -> Vec<u8> {
     (0..digits.len()).step_by(2).map(byte).collect()
 }
 
-/// The first numbers of each item; a dash stands for no item. The fee, the last one of a line,
-/// comes with a later request and is no payment.
+/// The numbers of each item; a dash stands for no item.
 fn items<const N: usize>(text: &str) -> Vec<[u64; N]> {
     let items = text.split(';').filter(|item| *item != "-");
     let numbers = |item: &str| {
-        let mut numbers = item.split([':', ',']).map(|number| number.parse().unwrap());
-        std::array::from_fn(|_| numbers.next().unwrap())
+        let numbers = item.split([':', ',']).map(|number| number.parse().unwrap());
+        numbers.collect::<Vec<_>>().try_into().unwrap()
     };
     items.map(numbers).collect()
 }

@@ -13,7 +13,7 @@ fn published() {
 fn of_the_paper() {
     let journal = [1, 0, 0, 0, 0, 0, 0, 0x03, 0xe8, 0x0a, 0, 0];
     let input = [&[0; 16][..], &journal].concat();
-    assert_eq!(statement(&input), "1 0 0 0 0\n2 5 0 0 0\nend 12 0\n");
+    assert_eq!(statement(&input), "1 0 0 0 0 0\n2 5 0 0 0 0\nend 12 0\n");
 }
 
 #[test]
