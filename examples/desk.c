@@ -1,4 +1,4 @@
-// A desk's program: it files the commands of a journal one by one, pays what is answered, and shows that the journal gives the same book again.
+// A desk's program: it files the commands of a journal one by one, pays what is answered, keeps its fee, and shows that the journal gives the same book again.
 //     gcc -Wall -Iinclude examples/desk.c target/staticlib/libfinaruvom.a -o target/desk && target/desk examples/week.journal
 #include "finaruvom.h"
 #include <inttypes.h>
@@ -6,7 +6,8 @@
 #include <stdlib.h>
 #include <string.h>
 
-enum { INPUT = 65536, COMMANDS = INPUT / 3, BATCH = 8 };
+// The fee is in ten-thousandths of what the merchant is paid: 2.5 in a hundred.
+enum { INPUT = 65536, COMMANDS = INPUT / 3, BATCH = 8, FEE = 250 };
 
 static uint8_t input[INPUT + 1]; // one byte more tells a journal that is too long
 static size_t input_n;
@@ -41,9 +42,11 @@ static void read_input(const char *path) {
     must(input_n >= FINARUVOM_ID_SIZE && input_n <= INPUT, "no book id, or a journal that is too long");
 }
 
-// A new book of the desk's: a till's delay of 0 stands for two days in it.
+// A new book of the desk's: a till's delay of 0 stands for two days in it, and it has the fee that was agreed.
 static void open_new(struct finaruvom_book *lent) {
-    must(finaruvom_open_with(lent, input, FINARUVOM_ID_SIZE, finaruvom_desk_settings()) == FINARUVOM_ACCEPTED, "the opening was refused");
+    struct finaruvom_settings settings = finaruvom_desk_settings();
+    settings.fee = FEE;
+    must(finaruvom_open_with(lent, input, FINARUVOM_ID_SIZE, settings) == FINARUVOM_ACCEPTED, "the opening was refused");
 }
 
 // What the desk knows of a channel, and which one is due next.
@@ -58,7 +61,7 @@ static void show(size_t n) {
         puts("; none is due");
 }
 
-// One command: here a desk has written it to its journal already, and pays what is answered.
+// One command: here a desk has written it to its journal already, pays what is answered, and keeps the fee.
 static void file_command(const uint8_t *command, size_t n) {
     struct finaruvom_answer a = finaruvom_apply(&book, command, n);
     must(filed < COMMANDS, "too many commands");
@@ -69,7 +72,7 @@ static void file_command(const uint8_t *command, size_t n) {
     else if (a.customer == 0 && a.merchant == 0)
         puts("carried out");
     else
-        printf("pays %" PRIu64 " to the customer, %" PRIu64 " to the merchant\n", a.customer, a.merchant);
+        printf("pays %" PRIu64 " to the customer, %" PRIu64 " to the merchant, fee %" PRIu64 "\n", a.customer, a.merchant, a.fee);
     if (a.refusal == FINARUVOM_ACCEPTED && command[0] > 5)
         show((size_t)(command[1] << 8 | command[2]));
 }
@@ -103,7 +106,7 @@ static void recover(void) {
     printf("run again: %zu lines, the same answers and the same book\n", line);
 }
 
-// A refused command, and a refused opening, leave every byte of the book.
+// A refused command, and refused openings, leave every byte of the book.
 static void refuse(void) {
     static const uint8_t settle[] = {0x0a, 0, FINARUVOM_CHANNELS};
     struct finaruvom_book before = book;
@@ -115,6 +118,11 @@ static void refuse(void) {
     uint32_t refusal = finaruvom_open_with(&book, input, FINARUVOM_ID_SIZE, settings);
     must(refusal == FINARUVOM_SETTINGS_DELAY && memcmp(&before, &book, sizeof book) == 0, "a refused opening left a trace");
     puts("an opening with a default delay of 3,599 seconds: refused with 14, and every byte stays");
+    settings = finaruvom_desk_settings();
+    settings.fee = FINARUVOM_HIGHEST_FEE + 1;
+    refusal = finaruvom_open_with(&book, input, FINARUVOM_ID_SIZE, settings);
+    must(refusal == FINARUVOM_SETTINGS_FEE && memcmp(&before, &book, sizeof book) == 0, "a refused opening left a trace");
+    puts("an opening with a fee of 1,001 ten-thousandths: refused with 20, and every byte stays");
 }
 
 // A book that was damaged where it shows, and one of another layout: every call says so.

@@ -124,6 +124,9 @@ uint32_t finaruvom_open(struct finaruvom_book *book, const uint8_t *id, size_t i
 #ifdef LEAVES_A_BYTE
     book->channels[63].leaves.second = old;
 #endif
+#ifdef SOME_FEE
+    book->setup.fee = refusal == FINARUVOM_ACCEPTED ? 250 : book->setup.fee;
+#endif
 #ifdef ANOTHER_MARK
     book->mark += refusal == 0;
 #endif
@@ -137,12 +140,35 @@ struct finaruvom_settings finaruvom_plain_settings(void) {
 }
 #endif
 
+#ifdef DESK_SETTINGS // SOME_FEE
+struct finaruvom_settings finaruvom_desk_settings(void) {
+    return (struct finaruvom_settings){FINARUVOM_DESK_DELAY, 250};
+}
+#endif
+
 #ifdef OPEN_WITH
 uint32_t right(struct finaruvom_book *book, const uint8_t *id, size_t id_n, struct finaruvom_settings settings);
 
 uint32_t finaruvom_open_with(struct finaruvom_book *book, const uint8_t *id, size_t id_n, struct finaruvom_settings settings) {
 #ifdef IGNORES_SETTINGS
     settings.delay = FINARUVOM_PLAIN_DELAY;
+#endif
+#ifdef FORGETS_THE_FEE
+    settings.fee = settings.fee > FINARUVOM_HIGHEST_FEE ? settings.fee : 0;
+#endif
+#ifdef ONE_HIGHER
+    settings.fee -= settings.fee == FINARUVOM_HIGHEST_FEE + 1;
+#endif
+#ifdef CUTS_THE_FEE
+    settings.fee &= 0xFFFF;
+#endif
+#ifdef FEE_BEFORE_ID
+    if (settings.delay >= FINARUVOM_SHORTEST_DELAY && settings.delay <= FINARUVOM_LONGEST_DELAY && settings.fee > FINARUVOM_HIGHEST_FEE)
+        return FINARUVOM_SETTINGS_FEE;
+#endif
+#ifdef FEE_BEFORE_DEFAULT
+    if (id_n == FINARUVOM_ID_SIZE && settings.fee > FINARUVOM_HIGHEST_FEE)
+        return FINARUVOM_SETTINGS_FEE;
 #endif
 #ifdef DEFAULT_FIRST
     if (settings.delay < FINARUVOM_SHORTEST_DELAY)
@@ -156,6 +182,9 @@ uint32_t finaruvom_open_with(struct finaruvom_book *book, const uint8_t *id, siz
 #ifdef STORES_ANYWAY
     book->setup.delay = settings.delay;
 #endif
+#ifdef STORES_THE_FEE_ANYWAY
+    book->setup.fee = settings.fee;
+#endif
     return refusal;
 }
 #endif
@@ -163,9 +192,16 @@ uint32_t finaruvom_open_with(struct finaruvom_book *book, const uint8_t *id, siz
 // What an apply reads in place of the book's default.
 #if defined ALWAYS_A_DAY
 #define ANOTHER_DEFAULT(delay) FINARUVOM_PLAIN_DELAY
-#elif defined HALF_THE_DEFAULT
-#define ANOTHER_DEFAULT(delay) (uint32_t)(delay)
+#elif defined CUTS_THE_DEFAULT
+#define ANOTHER_DEFAULT(delay) ((delay) & 0xFFFFFF)
 #endif
+
+// A book whose fee, where it is out of range, is one in range.
+static inline struct finaruvom_book mended(const struct finaruvom_book *book) {
+    struct finaruvom_book mended = *book;
+    mended.setup.fee = book->setup.fee > FINARUVOM_HIGHEST_FEE ? FINARUVOM_HIGHEST_FEE : book->setup.fee;
+    return mended;
+}
 
 #ifdef APPLY
 struct finaruvom_answer right(struct finaruvom_book *book, const uint8_t *command, size_t command_n);
@@ -239,6 +275,65 @@ static inline struct finaruvom_answer another_memory(struct finaruvom_book *book
     return answer;
 }
 
+// The fee of an amount, in numbers that hold every product.
+static inline uint64_t fee_of(uint64_t amount, uint32_t fee) {
+    return (uint64_t)((unsigned __int128)amount * fee / 10000);
+}
+
+// The fee of a payment to the merchant, as a wrong library has it.
+static inline uint64_t other_fee(uint64_t amount, uint32_t fee) {
+#if defined ROUNDS_UP
+    return fee_of(amount, fee) + (fee_of(amount, fee) * 10000 != amount * fee);
+#elif defined WRAPS
+    return amount * fee / 10000;
+#elif defined WHOLE_TEN_THOUSANDS
+    return amount / 10000 * fee;
+#elif defined NO_FEE
+    (void)amount, (void)fee;
+    return 0;
+#else
+    return fee_of(amount, fee);
+#endif
+}
+
+// An apply that is wrong in the fee.
+static inline struct finaruvom_answer another_fee(struct finaruvom_book *book, const uint8_t *command, size_t command_n) {
+    struct filed now = filed(book, command, command_n);
+    uint32_t fee = book->setup.fee;
+    struct finaruvom_answer answer = another_memory(book, command, command_n);
+    uint64_t amount = answer.merchant + answer.fee;
+    answer.fee = other_fee(amount, fee);
+    answer.merchant = amount - answer.fee;
+    (void)now;
+#ifdef FEE_OF_THE_TOTAL
+    if (now.disputes && answer.refusal == FINARUVOM_ACCEPTED) {
+        uint64_t total = now.channel->customer.deposit + now.channel->merchant.deposit;
+        answer.fee = fee_of(total, fee) - fee_of(total - amount, fee);
+        answer.merchant = amount - answer.fee;
+    }
+#endif
+#ifdef MERCHANT_WHOLE
+    answer.merchant = amount;
+#endif
+#ifdef FROM_THE_CUSTOMER
+    uint64_t share = answer.fee < answer.customer ? answer.fee : 0;
+    answer.customer -= share;
+    answer.merchant += share;
+#endif
+#ifdef CUSTOMER_PAYS_TOO
+    answer.fee += fee_of(answer.customer, fee);
+    answer.customer -= fee_of(answer.customer, fee);
+#endif
+#ifdef FEE_WHERE_REFUSED
+    answer.fee += fee != 0 && answer.refusal == FINARUVOM_STATUS;
+#endif
+#ifdef A_CENT_ANYWAY
+    if (fee == 0 && answer.merchant != 0)
+        answer.merchant--, answer.fee++;
+#endif
+    return answer;
+}
+
 struct finaruvom_answer finaruvom_apply(struct finaruvom_book *book, const uint8_t *command, size_t command_n) {
 #ifdef COPIES
     static struct finaruvom_book copy;
@@ -253,10 +348,17 @@ struct finaruvom_answer finaruvom_apply(struct finaruvom_book *book, const uint8
     book->mark = 0x6172626974657200 + FINARUVOM_LAYOUT;
 #endif
 #ifdef ANOTHER_DEFAULT
-    uint64_t delay = book->setup.delay;
+    uint32_t delay = book->setup.delay;
     book->setup.delay = ANOTHER_DEFAULT(delay);
 #endif
-    struct finaruvom_answer answer = another_memory(book, command, command_n);
+#ifdef ANY_FEE
+    uint32_t fee = book->setup.fee;
+    *book = mended(book);
+#endif
+    struct finaruvom_answer answer = another_fee(book, command, command_n);
+#ifdef ANY_FEE
+    book->setup.fee = fee;
+#endif
 #ifdef ANY_LAYOUT
     book->mark = mark;
 #endif
@@ -285,20 +387,33 @@ struct finaruvom_answer finaruvom_apply(struct finaruvom_book *book, const uint8
 }
 #endif
 
-#ifdef READ // HELD_IS_TOTAL
+#ifdef READ
 struct finaruvom_reading right(const struct finaruvom_book *book, size_t n);
 
 struct finaruvom_reading finaruvom_read(const struct finaruvom_book *book, size_t n) {
+#ifdef ANY_FEE
+    struct finaruvom_book other = mended(book);
+    book = &other;
+#endif
     struct finaruvom_reading reading = right(book, n);
+#ifdef HELD_IS_TOTAL
     reading.held = reading.total;
+#endif
     return reading;
 }
 #endif
 
-#ifdef DUE // NEVER
+#ifdef DUE
+struct finaruvom_found right(const struct finaruvom_book *book);
+
 struct finaruvom_found finaruvom_due(const struct finaruvom_book *book) {
+#ifdef NEVER
     (void)book;
     return (struct finaruvom_found){0};
+#else // ANY_FEE
+    struct finaruvom_book other = mended(book);
+    return right(&other);
+#endif
 }
 #endif
 
@@ -307,10 +422,21 @@ struct finaruvom_ran right(struct finaruvom_book *book, const uint8_t *commands,
 
 struct finaruvom_ran finaruvom_run(struct finaruvom_book *book, const uint8_t *commands, size_t commands_n, struct finaruvom_line *lines,
                                    size_t lines_n) {
+#ifdef ANY_FEE
+    uint32_t fee = book->setup.fee;
+    *book = mended(book);
+#endif
     struct finaruvom_ran ran = right(book, commands, commands_n, lines, lines_n);
+#ifdef ANY_FEE
+    book->setup.fee = fee;
+#endif
 #ifdef SWAPS
     for (size_t i = 0; i < ran.lines; i++)
         swap(&lines[i].answer);
+#endif
+#ifdef NO_FEE
+    for (size_t i = 0; i < ran.lines; i++)
+        lines[i].answer.fee = 0;
 #endif
 #ifdef CLEARS_LATER
     memset(lines + ran.lines, 0, (lines_n - ran.lines) * sizeof *lines);
@@ -345,7 +471,10 @@ static inline size_t put_both(struct finaruvom_payment *list, size_t room, size_
     if (answer->refusal != FINARUVOM_ACCEPTED)
         return n;
 #endif
-#ifdef MERCHANT_FIRST
+#ifdef GROSS
+    n = put(list, room, n, FINARUVOM_TO_CUSTOMER, command, answer->customer);
+    return put(list, room, n, FINARUVOM_TO_MERCHANT, command, answer->merchant + answer->fee);
+#elif defined MERCHANT_FIRST
     n = put(list, room, n, FINARUVOM_TO_MERCHANT, command, answer->merchant);
     return put(list, room, n, FINARUVOM_TO_CUSTOMER, command, answer->customer);
 #else

@@ -26,7 +26,7 @@ pub fn open(book: &mut Book, id: &[u8]) -> u32
     done.refusal
 }
 
-// The opening with settings: 2 for the id, then 14 where the default delay is out of its range; refused, it keeps every value.
+// The opening with settings: 2 for the id, then 14 where the default delay is out of its range, then 20 for the fee; refused, it keeps every value.
 pub fn open_with(book: &mut Book, id: &[u8], settings: Settings) -> u32
     ensures { λ r. ⌜ (r ≡ opening (now (book .entry)) (under settings (now (id .entry))) .refusal)
         × (now (book .exit) ≡ opening (now (book .entry)) (under settings (now (id .entry))) .book) ⌝ }

@@ -1,6 +1,7 @@
 // A book to lend, and the openings that make it fresh: the plain one, and one that is given settings.
 use checks::tested;
 use checks::unjudged;
+use fees::fee_fits;
 use holdings::delay_fits;
 use machine::Book;
 use machine::Cents;
@@ -52,24 +53,33 @@ pub fn blank() -> Book
     Book {
         mark: 0,
         id: [0u8; 16],
-        setup: Setup { delay: 0 },
+        setup: Setup {
+            delay: 0,
+            fee: 0,
+        },
         clock: Seconds(0),
         channels,
     }
 }
 
-// What the plain opening is given: a delay of 0 stands for a day.
+// What the plain opening is given: a delay of 0 stands for a day, and there is no fee.
 pub fn plain_settings() -> Settings
     ensures { λ r. ⌜ r ≡ plainSettings ⌝ }
 {
-    Settings { delay: 86400 }
+    Settings {
+        delay: 86400,
+        fee: 0,
+    }
 }
 
-// What the desk gives new books: a delay of 0 stands for two days.
+// What the desk gives new books: a delay of 0 stands for two days, and there is no fee.
 pub fn desk_settings() -> Settings
     ensures { λ r. ⌜ r ≡ deskSettings ⌝ }
 {
-    Settings { delay: 172800 }
+    Settings {
+        delay: 172800,
+        fee: 0,
+    }
 }
 
 fn fresh_book(id: [u8; 16], settings: Settings) -> Book
@@ -78,7 +88,8 @@ fn fresh_book(id: [u8; 16], settings: Settings) -> Book
     let channel = unused_channel();
     let channels = [channel; 64];
     let setup = Setup {
-        delay: settings.delay as u64,
+        delay: settings.delay,
+        fee: settings.fee,
     };
     Book {
         mark: MARK,
@@ -95,6 +106,7 @@ pub fn opened_with(lent: Book, id: &[u8], settings: Settings) -> Opened
 {
     let j = tested(unjudged(), 2, id.len() == 16);
     let j = tested(j, 14, delay_fits(settings.delay as u64));
+    let j = tested(j, 20, fee_fits(settings.fee));
     if j.refusal != 0 {
         return Opened {
             book: lent,

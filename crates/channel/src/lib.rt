@@ -19,13 +19,13 @@ ghost use Prim.Native.Nat.{_≤_};
 ghost use lib.ListN.{length};
 ghost use Rattle.sha256.specs.Digest.{sha256};
 ghost use Rattle.machine.specs.Format.{size};
-ghost use Rattle.machine.specs.Book.{limit, soundChannel, soundSetup};
+ghost use Rattle.machine.specs.Book.{limit, soundChannel};
 ghost use Rattle.machine.specs.Machine.{ruling, plan};
 ghost use Rattle.machine.specs.Real.{lmsVerdict};
 
 // What a command 02 to 0A makes of its channel.
 pub fn rule(op: u8, ch: Channel, at: Context, command: &[u8]) -> Ruled
-    requires { ⌜ (2 ≤ op) × (op ≤ 10) × (length (now command) ≡ size op) × (soundChannel ch ≡ true) × (soundSetup (at .setup) ≡ true) × (at .clock .0 ≤ limit) ⌝ }
+    requires { ⌜ (2 ≤ op) × (op ≤ 10) × (length (now command) ≡ size op) × (soundChannel ch ≡ true) × (at .clock .0 ≤ limit) ⌝ }
     ensures { λ r. ⌜ r ≡ ruling ch (plan lmsVerdict sha256 op at (now (command .entry)) ch) ⌝ }
 {
     match op {

@@ -36,7 +36,7 @@ pub fn tested(j: Judged, refusal: u32, ok: bool) -> Judged
     }
 }
 
-// The answer: a refused command pays nothing.
+// The answer before the fee: a refused command pays nothing.
 pub fn answered(j: Judged, customer: Cents, merchant: Cents) -> Answer
     ensures { λ r. ⌜ r ≡ answer j customer merchant ⌝ }
 {
@@ -46,6 +46,7 @@ pub fn answered(j: Judged, customer: Cents, merchant: Cents) -> Answer
             merchant: Cents(0),
             steps: j.steps,
             refusal: j.refusal,
+            fee: Cents(0),
         };
     }
     Answer {
@@ -53,6 +54,7 @@ pub fn answered(j: Judged, customer: Cents, merchant: Cents) -> Answer
         merchant,
         steps: j.steps,
         refusal: j.refusal,
+        fee: Cents(0),
     }
 }
 

@@ -11,17 +11,20 @@ use borrow.Author.Tests.{eq-eqb, ne-eqb, eqb-true, eqb-false, leb-true, lt-ltb, 
 use Rattle.machine.specs.Format.{opcode, size, time, place}
 use Rattle.machine.specs.Book.{cents, seconds, sound, channel, withChannel, withClock, noChannel}
 use Rattle.machine.specs.Checks.{Check, Verdict, test, clean, passed, ask, judge}
+use Rattle.machine.specs.Fee.{charged}
 use Rattle.machine.specs.Rules.{Plan}
 use Rattle.machine.specs.Machine.{answer, concluded, ruling, formed, shared, Order, carried, setClock, onChannel, planned, order, step}
 use Rattle.command.specs.Parts.{clocked}
 use Rattle.machine.specs.declared.units.Cents.{Cents}
 use Rattle.machine.specs.declared.state.Channel.{Channel}
 use Rattle.machine.specs.declared.state.Book.{Book}
+use Rattle.machine.specs.declared.answers.Answer.{Answer}
 use Rattle.machine.specs.declared.answers.Judged.{Judged}
 use Rattle.machine.specs.declared.answers.Ruled.{Ruled}
 use Rattle.command.specs.declared.steps.Clocked.{Clocked}
 use Rattle.wire.proofs.Laws.{and-both}
 use Rattle.machine.proofs.Judging.{judge-passed, judge-stop}
+use Rattle.machine.proofs.Fees.{free}
 
 is-clean : (j : Judged) → j .refusal ≡ 0 → j .steps ≡ 0 → j ≡ clean
 is-clean j r s = ap (λ (n : ℕ). record { refusal = n; steps = j .steps }) r ∙ ap (λ (n : ℕ). record { refusal = 0; steps = n }) s
@@ -57,9 +60,18 @@ clock-cond : (b : Book) (t : ℕ) (x : Bool) → _≡_ {A = Book} (record { mark
 clock-cond b t true = refl
 clock-cond b t false = refl
 
+-- An answer that pays nothing has no fee.
+unpaid : (r : ℕ) (j : Judged) → charged r (answer j (cents 0) (cents 0)) ≡ answer j (cents 0) (cents 0)
+unfolding answer
+unpaid r j = free r (answer j (cents 0) (cents 0)) (go (passed j)) refl
+  where
+    go : (x : Bool) → cond x (cents 0) (cents 0) ≡ cents 0
+    go true = refl
+    go false = refl
+
 -- An order that is refused.
 carried-stops : (j : Judged) (b : Book) (o : Order) → (j .refusal ≡ 0 → ⊥) → record { book = b; answer = answer j (cents 0) (cents 0) } ≡ carried j b o
-carried-stops j b o h = rw (ne-eqb _ _ h, answer-no j (o .pays .customer) (o .pays .merchant) h)
+carried-stops j b o h = rw (ne-eqb _ _ h, answer-no j (o .pays .customer) (o .pays .merchant) h, unpaid (b .setup .fee) j)
 
 -- A test of every number below a bound, by computing.
 abbrev below : (ℕ → Bool) → ℕ → Bool
@@ -98,9 +110,11 @@ module _ (check : List ℕ → List ℕ → List ℕ → Verdict) (hash : List �
   module _ (h : j .refusal ≡ 0) (k : j .steps ≡ 0) where
     pub step-clock : opcode s ≡ 1 → (d : Clocked) → d ≡ clocked (b .clock) (time s) → record { book = record { mark = b .mark; id = b .id; setup = b .setup; clock = d .clock; channels = b .channels }; answer = d .answer } ≡ step check hash b s
     step-clock o d q =
+        let i = judge clean ((setClock b (time s)) .checks) in
         ap (λ (x : Clocked). record { book = record { mark = b .mark; id = b .id; setup = b .setup; clock = x .clock; channels = b .channels }; answer = x .answer }) q
-        ∙ ap (λ (x : Book). record { book = x; answer = (clocked (b .clock) (time s)) .answer }) (clock-cond b (time s) (passed (judge clean ((setClock b (time s)) .checks))))
-        ∙ step-is (setClock b (time s)) _ (rw (eq-eqb _ _ o)) (ap (λ (x : Judged). judge x ((setClock b (time s)) .checks)) (is-clean j h k))
+        ∙ ap (λ (x : Book). record { book = x; answer = (clocked (b .clock) (time s)) .answer }) (clock-cond b (time s) (passed i))
+        ∙ ap (λ (a : Answer). record { book = cond (passed i) (withClock b (time s)) b; answer = a }) (sym (unpaid (b .setup .fee) i))
+        ∙ step-is (setClock b (time s)) i (rw (eq-eqb _ _ o)) (ap (λ (x : Judged). judge x ((setClock b (time s)) .checks)) (is-clean j h k))
 
     module _ (o : opcode s ≡ 1 → ⊥) where
       abbrev p : Plan
@@ -118,10 +132,10 @@ module _ (check : List ℕ → List ℕ → List ℕ → Verdict) (hash : List �
           ∙ carried-stops z b (onChannel b (place s) p) (eqb-false 4 0 refl)
           ∙ step-is (onChannel b (place s) p) z (rw (ne-eqb _ _ o)) (fourth false (le-ltb _ _ n) ∙ judge-stop (p .checks) z (eqb-false 4 0 refl))
 
-      pub step-channel : place s < 64 → (r : Ruled) → r ≡ ruling (channel b (place s)) p → record { book = withChannel b (place s) (r .channel); answer = r .answer } ≡ step check hash b s
+      pub step-channel : place s < 64 → (r : Ruled) → r ≡ ruling (channel b (place s)) p → record { book = withChannel b (place s) (r .channel); answer = charged (b .setup .fee) (r .answer) } ≡ step check hash b s
       unfolding ask ruling concluded
       step-channel n r q =
           let i = judge clean (p .checks) in
-          ap (λ (x : Ruled). record { book = withChannel b (place s) (x .channel); answer = x .answer }) q
-          ∙ ap (λ (x : Book). record { book = x; answer = answer i (p .pays .customer) (p .pays .merchant) }) (write-cond b (place s) (p .channel) (passed i))
+          ap (λ (x : Ruled). record { book = withChannel b (place s) (x .channel); answer = charged (b .setup .fee) (x .answer) }) q
+          ∙ ap (λ (x : Book). record { book = x; answer = charged (b .setup .fee) (answer i (p .pays .customer) (p .pays .merchant)) }) (write-cond b (place s) (p .channel) (passed i))
           ∙ step-is (onChannel b (place s) p) i (rw (ne-eqb _ _ o)) (fourth true (lt-ltb _ _ n))

@@ -1,4 +1,5 @@
 // Whether a book is sound: any values may stand in a lent one.
+use fees::fee_fits;
 use holdings::delay_fits;
 use holdings::sound_channel;
 use machine::Book;
@@ -11,11 +12,18 @@ ghost use mathlib.Core.Bool.{_&&_};
 ghost use lib.Dec.{eqb, leb};
 ghost use Rattle.machine.specs.Book.{limit, theMark, soundSetup, sound};
 
+// What the opening fixed is in its limits.
+fn sound_setup(setup: Setup) -> bool
+    ensures { λ r. ⌜ r ≡ soundSetup setup ⌝ }
+{
+    delay_fits(setup.delay as u64) & fee_fits(setup.fee)
+}
+
 // What is asked of the book beside its channels.
 pub fn sound_header(mark: u64, setup: Setup, clock: Seconds) -> bool
     ensures { λ r. ⌜ r ≡ (eqb mark theMark && leb (clock .0) limit && soundSetup setup) ⌝ }
 {
-    (mark == MARK) & (clock.0 <= LIMIT) & delay_fits(setup.delay)
+    (mark == MARK) & (clock.0 <= LIMIT) & sound_setup(setup)
 }
 
 pub fn sound(book: Book) -> bool

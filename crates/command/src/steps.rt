@@ -4,6 +4,7 @@ use channel::rule;
 use checks::answered;
 use checks::tested;
 use checks::unjudged;
+use fees::charged;
 use holdings::sound_channel;
 use machine::Answer;
 use machine::Book;
@@ -107,9 +108,9 @@ pub fn step(mut book: Book, command: &[u8]) -> Stepped
                     setup: book.setup,
                 };
                 let done = rule(op, ch, at, command);
+                answer = charged(done.answer, book.setup.fee);
                 let channel = done.channel;
                 book.channels[n] = channel;
-                answer = done.answer;
             } else {
                 answer = answered(tested(j, 4, false), Cents(0), Cents(0));
             }

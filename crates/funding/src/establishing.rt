@@ -16,10 +16,8 @@ use wire::same_key;
 use wire::u32_at;
 use wire::u64_at;
 ghost use mathlib.Core.Path.{_≡_};
-ghost use mathlib.Core.Bool.{true};
 ghost use lib.ListN.{length};
 ghost use Rattle.machine.specs.Format.{delay};
-ghost use Rattle.machine.specs.Book.{ranged, soundSetup};
 ghost use Rattle.machine.specs.Rules.{keyed, delayed, depositsFit, establish};
 ghost use Rattle.machine.specs.Machine.{customerOf, merchantOf, ruling};
 
@@ -31,11 +29,10 @@ fn keys_fit(customer: [u8; 56], merchant: [u8; 56]) -> bool
 }
 
 // A delay of 0 stands for the book's default.
-fn delay_or_default(default: u64, delay: u32) -> u32
-    requires { ⌜ ranged default ≡ true ⌝ }
+fn delay_or_default(default: u32, delay: u32) -> u32
     ensures { λ r. ⌜ r ≡ delayed default delay ⌝ }
 {
-    if delay == 0 { default as u32 } else { delay }
+    if delay == 0 { default } else { delay }
 }
 
 // The total is 1 to 2^63 - 1: one side may deposit nothing, but not both.
@@ -47,7 +44,6 @@ fn deposits_fit(customer: Cents, merchant: Cents) -> bool
 }
 
 fn establish(ch: Channel, at: Context, customer: Party, merchant: Party, delay: u32) -> Ruled
-    requires { ⌜ soundSetup (at .setup) ≡ true ⌝ }
     ensures { λ r. ⌜ r ≡ ruling ch (establish at customer merchant delay ch) ⌝ }
 {
     let customer_key = customer.key;
@@ -66,7 +62,7 @@ fn establish(ch: Channel, at: Context, customer: Party, merchant: Party, delay: 
 
 // The rule at the operands of a command.
 pub fn establish_from(ch: Channel, at: Context, command: &[u8]) -> Ruled
-    requires { ⌜ (soundSetup (at .setup) ≡ true) × (length (now command) ≡ 135) ⌝ }
+    requires { ⌜ length (now command) ≡ 135 ⌝ }
     ensures { λ r. ⌜ r ≡ ruling ch (establish at (customerOf (now (command .entry))) (merchantOf (now (command .entry))) (delay (now (command .entry))) ch) ⌝ }
 {
     let customer = Party {

@@ -1,11 +1,12 @@
 -- The bound of the fee, the fee in parts that stay within 64 bits, and what an answer that is charged pays.
-use mathlib.Core.Path.{_≡_, refl, sym, ap, _∙_}
+use mathlib.Core.Path.{_≡_, sym, ap, _∙_}
 use Prim.Native.Nat.{ℕ, _+_, _*_, _-_, _/_, _%_, _≤_}
 use native.Mathlib.Omega.{arith}
-use native.Mathlib.Nat.{mul-add-div-right, mul-le-mul-left, sub-add-cancel, zero-mul, zero-div}
-use Rattle.machine.specs.Book.{highest}
+use native.Mathlib.Nat.{mul-add-div-right, mul-le-mul-left, sub-add-cancel, zero-mul}
+use Rattle.machine.specs.Book.{cents, highest}
 use Rattle.machine.specs.Fee.{feeOf, charged, FeeBound}
 use Rattle.machine.specs.Ledger.{paidBy, shares, Divided}
+use Rattle.machine.specs.declared.units.Cents.{Cents}
 use Rattle.machine.specs.declared.answers.Answer.{Answer}
 
 halves : (x y : ℕ) → (x / 10000 + y / 10000 ≤ (x + y) / 10000) × ((x + y) / 10000 ≤ x / 10000 + y / 10000 + 1)
@@ -41,5 +42,15 @@ pub charged-divided : (r : ℕ) (a : Answer) → r ≤ highest → Divided r (pa
 unfolding charged
 charged-divided r a h = ap (feeOf r) (sym (charged-whole r a h))
 
-pub no-fee : (r : ℕ) → feeOf r 0 ≡ 0
+no-fee : (r : ℕ) → feeOf r 0 ≡ 0
 no-fee r = rw (zero-mul r)
+
+-- Where the merchant is paid nothing there is no fee.
+pub free : (r : ℕ) (a : Answer) → a .merchant ≡ cents 0 → a .fee ≡ cents 0 → charged r a ≡ a
+unfolding charged
+free r a m f =
+    ap (λ (x : Cents). pays (cents (x .0 - feeOf r (x .0))) (cents (feeOf r (x .0)))) m ∙ ap (λ (n : ℕ). pays (cents (0 - n)) (cents n)) (no-fee r)
+    ∙ ap (λ (x : Cents). pays x (cents 0)) (sym m) ∙ ap (pays (a .merchant)) (sym f)
+  where
+    pays : Cents → Cents → Answer
+    pays merchant fee = record { customer = a .customer; merchant = merchant; steps = a .steps; refusal = a .refusal; fee = fee }

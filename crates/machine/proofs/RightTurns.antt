@@ -22,18 +22,19 @@ use Rattle.machine.specs.declared.state.Party.{Party}
 use Rattle.machine.specs.declared.state.Channel.{Channel}
 use Rattle.machine.specs.declared.state.Context.{Context}
 use Rattle.machine.specs.declared.state.Book.{Book}
+use Rattle.machine.specs.declared.answers.Answer.{Answer}
 use Rattle.machine.specs.declared.answers.Judged.{Judged}
 use Rattle.machine.specs.declared.answers.Stepped.{Stepped}
 use Rattle.wire.proofs.Laws.{same-refl}
 use Rattle.machine.proofs.Laws.{and-middle, setup-limits, sound-context, same-ne}
-use Rattle.machine.proofs.Fees.{fee-below, no-fee}
+use Rattle.machine.proofs.Fees.{fee-below, free}
 use Rattle.machine.proofs.Judging.{judge-stop}
 use Rattle.machine.proofs.Plans.{each-plan}
 
 -- A refused command has no fee.
 carried-stops : (j : Judged) (b : Book) (o : Order) → (j .refusal ≡ 0 → ⊥) → carried j b o ≡ record { book = b; answer = refusal (j .refusal) (j .steps) }
-unfolding answer charged
-carried-stops j b o h = rw (ne-eqb _ _ h, no-fee (b .setup .fee))
+unfolding answer
+carried-stops j b o h = rw (ne-eqb _ _ h) (ap (λ (a : Answer). record { book = b; answer = a }) (free (b .setup .fee) (refusal (j .refusal) (j .steps)) refl refl))
 
 -- The first of a list of checks says no.
 first-no : (r : ℕ) (x : Bool) (l : List Check) (b : Book) (o : Order) → x ≡ false → (r ≡ 0 → ⊥) → carried (judge clean (test r x ∷ l)) b o ≡ record { book = b; answer = refusal r 0 }

@@ -28,7 +28,7 @@ use Rattle.machine.specs.declared.answers.Judged.{Judged}
 use Rattle.machine.specs.declared.answers.Stepped.{Stepped}
 use Rattle.wire.proofs.Laws.{and-both, and-make, same-refl}
 use Rattle.machine.proofs.Laws.{clash, setup-limits}
-use Rattle.machine.proofs.Fees.{charged-whole, charged-divided, no-fee}
+use Rattle.machine.proofs.Fees.{charged-whole, charged-divided, free}
 use Rattle.machine.proofs.Judging.{Passed, coded, judge-passed, passed-judge}
 use Rattle.machine.proofs.Plans.{each-plan}
 use Rattle.machine.proofs.Life.{Basis, Stage}
@@ -106,10 +106,8 @@ uncharged p code steps = record { refusal = code; customer = p .customer; mercha
 abbrev granted : ℕ → Order → ℕ → Stepped
 granted r o steps = record { book = o .book; answer = charged r (uncharged (o .pays) 0 steps) }
 
--- Where nothing is paid there is no fee.
 unpaid : (r code steps : ℕ) → paidBy (charged r (uncharged (pay 0 0) code steps)) ≡ nothing
-unfolding charged
-unpaid r code steps = rw (no-fee r)
+unpaid r code steps = ap paidBy (free r (uncharged (pay 0 0) code steps) refl refl)
 
 module _ (check : List ℕ → List ℕ → List ℕ → Verdict) (o : Opening) (t : Standing) (i : Agrees check o t) where
   facts : (n : ℕ) → n < 64 → Facts (basisOf check (t .book)) (strings n (t .history)) (channel (t .book) n)

@@ -1,5 +1,5 @@
 //! The life of three channels between a café, the customer, and a bakery, the merchant, with real
-//! signatures. It prints an account, and asserts what it prints.
+//! signatures and a fee. It prints an account, and asserts what it prints.
 use finaruvom::command::{
     CustomerClose, Dispute, Establish, FundCustomer, FundMerchant, MutualClose, SetClock, Settle,
     Signatures,
@@ -13,6 +13,8 @@ const ID: [u8; ID_SIZE] = *b"corner desk 2026";
 /// Monday, 6 July 2026, eight o'clock.
 const MORNING: u64 = 1_783_324_800;
 const HOUR: u64 = 3_600;
+/// What the desk keeps of each payment to the bakery, in ten-thousandths: a fortieth.
+const FEE: u32 = 250;
 
 /// A till with its key. Each leaf of the key signs once.
 struct Till {
@@ -48,7 +50,7 @@ struct Desk {
 impl Desk {
     fn new() -> Result<Desk, Refusal> {
         Ok(Desk {
-            book: Book::open_with(&ID, &Settings::desk())?,
+            book: Book::open_with(&ID, &Settings::desk().with_fee(FEE))?,
             cafe: Till::new(1),
             bakery: Till::new(2),
             paid: Payments::default(),
@@ -58,11 +60,16 @@ impl Desk {
     /// Files a command, pays what it pays and tells of it.
     fn file(&mut self, what: &str, command: &[u8]) -> Result<Payments, Refusal> {
         let paid = self.book.apply(command).paid()?;
-        let Payments { customer, merchant } = paid;
+        let Payments {
+            customer,
+            merchant,
+            fee,
+        } = paid;
         self.paid.customer = sum(self.paid.customer, customer);
         self.paid.merchant = sum(self.paid.merchant, merchant);
+        self.paid.fee = sum(self.paid.fee, fee);
         print!("{what}");
-        for (cents, side) in [(customer, "café"), (merchant, "bakery")] {
+        for (cents, side) in [(customer, "café"), (merchant, "bakery"), (fee, "desk")] {
             if cents > Cents(0) {
                 print!(", {cents} to the {side}");
             }
@@ -110,8 +117,8 @@ impl Desk {
         self.tell(channel, Status::Open, 1_000)
     }
 
-    /// The café closes a channel with 700 for itself; the bakery, which had signed that balance, is
-    /// paid 300.
+    /// The café closes a channel with 700 for itself, a balance that the bakery had signed; of the
+    /// bakery's 300 the desk keeps 7.
     fn cafe_closes(&mut self, channel: u16, secret: &[u8; 32]) -> Result<(), Refusal> {
         let close = CustomerClose {
             channel,
@@ -125,7 +132,7 @@ impl Desk {
             customer: &self.cafe.sign(&message),
         });
         let paid = self.file(&format!("channel {channel} closed by the café"), &command)?;
-        assert_eq!(paid, payments(0, 300));
+        assert_eq!(paid, payments(0, 293, 7));
         self.tell(channel, Status::CustomerClosing, 700)
     }
 
@@ -138,10 +145,11 @@ impl Desk {
     }
 }
 
-fn payments(customer: u64, merchant: u64) -> Payments {
+fn payments(customer: u64, merchant: u64, fee: u64) -> Payments {
     Payments {
         customer: Cents(customer),
         merchant: Cents(merchant),
+        fee: Cents(fee),
     }
 }
 
@@ -150,6 +158,7 @@ fn sum(paid: Cents, more: Cents) -> Cents {
 }
 
 /// Channel 0: the café closes with an old balance. The bakery has its secret and disputes in time.
+/// Its two payments have two fees, 7 of 300 and 17 of 700.
 fn disputed(desk: &mut Desk) -> Result<(), Refusal> {
     let secret = [0x5e; 32];
     desk.open_channel(0)?;
@@ -159,7 +168,7 @@ fn disputed(desk: &mut Desk) -> Result<(), Refusal> {
     let dispute = Dispute { channel: 0, secret };
     let signature = desk.bakery.sign(&dispute.message(desk.book.id()));
     let paid = desk.file("channel 0 disputed", &dispute.command(&signature))?;
-    assert_eq!(paid, payments(0, 700));
+    assert_eq!(paid, payments(0, 683, 17));
     desk.tell(0, Status::Closed, 0)
 }
 
@@ -177,7 +186,7 @@ fn mutual(desk: &mut Desk) -> Result<(), Refusal> {
         customer: &desk.cafe.sign(&message),
     });
     let paid = desk.file("channel 1 closed by both", &command)?;
-    assert_eq!(paid, payments(400, 600));
+    assert_eq!(paid, payments(400, 585, 15));
     desk.tell(1, Status::Closed, 0)
 }
 
@@ -196,7 +205,7 @@ fn settled(desk: &mut Desk) -> Result<(), Refusal> {
     assert_eq!(desk.book.due(), Some(2));
     assert_eq!(desk.book.read(2)?.deadline, desk.book.clock());
     let paid = desk.file("channel 2 settled", &settle)?;
-    assert_eq!(paid, payments(700, 0));
+    assert_eq!(paid, payments(700, 0, 0));
     assert_eq!(desk.book.due(), None);
     desk.tell(2, Status::Closed, 0)
 }
@@ -219,8 +228,12 @@ fn main() -> Result<(), Refusal> {
     settled(&mut desk)?;
 
     // Three channels of 1,000: what was paid in is paid out.
-    let Payments { customer, merchant } = desk.paid;
-    assert_eq!(desk.paid, payments(1_100, 1_900));
-    println!("paid in all: {customer} to the café, {merchant} to the bakery");
+    let Payments {
+        customer,
+        merchant,
+        fee,
+    } = desk.paid;
+    assert_eq!(desk.paid, payments(1_100, 1_854, 46));
+    println!("paid in all: {customer} to the café, {merchant} to the bakery, {fee} to the desk");
     Ok(())
 }

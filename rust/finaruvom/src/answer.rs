@@ -20,14 +20,16 @@ use core::fmt;
 #[derive(Clone, Copy, Default, PartialEq, Eq, Hash)]
 pub struct Answer(raw::Answer);
 
-/// What an accepted command paid to each side.
+/// What an accepted command paid to each side, and the fee.
 #[must_use = "dropped payments are lost"]
 #[derive(Clone, Copy, Debug, Default, PartialEq, Eq, Hash)]
 pub struct Payments {
     /// Paid to the customer.
     pub customer: Cents,
-    /// Paid to the merchant.
+    /// Paid to the merchant, who gets the rest after the fee.
     pub merchant: Cents,
+    /// What the desk keeps of the payment to the merchant; the customer pays none.
+    pub fee: Cents,
 }
 
 impl Answer {
@@ -41,6 +43,7 @@ impl Answer {
         Ok(Payments {
             customer: self.0.customer,
             merchant: self.0.merchant,
+            fee: self.0.fee,
         })
     }
 

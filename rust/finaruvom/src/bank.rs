@@ -37,6 +37,8 @@ pub use payment::{Payee, Payment};
 /// Collects the payments of a run from its commands and its lines: each above zero, in the order of
 /// the commands, the customer's before the merchant's.
 ///
+/// The merchant's is what he gets. The fee is a payment to neither, and is not collected.
+///
 /// It goes through commands and lines side by side, whatever refusal a line shows, passes over 01,
 /// and ends where the run would. A list with twice as many entries as there are lines is long
 /// enough. Any amount is collected, also one that [`write()`] then refuses.
@@ -44,11 +46,11 @@ pub use payment::{Payee, Payment};
 /// ```
 /// use finaruvom::bank::{self, Payee, Payment};
 /// use finaruvom::command::{Establish, FundMerchant, MutualClose, Signatures};
-/// use finaruvom::{Book, Cents, Line, Refusal};
+/// use finaruvom::{Book, Cents, Line, Refusal, Settings};
 /// # let customer = oracle::Signer::with_leaves([1; 32], [1; 16], &[0]);
 /// # let merchant = oracle::Signer::with_leaves([2; 32], [2; 16], &[0]);
 ///
-/// let mut book = Book::open(&[7; 16])?;
+/// let mut book = Book::open_with(&[7; 16], &Settings::desk().with_fee(250))?;
 /// let establish = Establish {
 ///     channel: 5,
 ///     customer_key: customer.key(),
@@ -71,7 +73,8 @@ pub use payment::{Payee, Payment};
 /// let mut list = [Payment::default(); 6];
 /// let count = bank::collect(&journal, &lines, &mut list)?;
 /// let payment = |party, cents| Payment { party, channel: 5, amount: Cents(cents) };
-/// let paid = [payment(Payee::Customer, 400), payment(Payee::Merchant, 600)];
+/// // Of the merchant's 600 the desk keeps 15.
+/// let paid = [payment(Payee::Customer, 400), payment(Payee::Merchant, 585)];
 /// assert_eq!(list[..count], paid);
 /// # Ok::<(), Refusal>(())
 /// ```

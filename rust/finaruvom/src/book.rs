@@ -51,7 +51,8 @@ pub struct Book {
 }
 
 impl Book {
-    /// A fresh book with this id, by the plain opening: a delay of 0 stands for a day.
+    /// A fresh book with this id, by the plain opening: a delay of 0 stands for a day, and there is
+    /// no fee.
     ///
     /// # Errors
     ///
@@ -73,13 +74,20 @@ impl Book {
     /// assert!(Book::open_with(&[7; 16], &hour).is_ok());
     /// let less = Settings::default().with_delay(3_599);
     /// assert_eq!(Book::open_with(&[7; 16], &less), Err(Refusal::SettingsDelay));
+    ///
+    /// // A fortieth of what a merchant is paid, and more than a tenth.
+    /// let fee = Settings::desk().with_fee(250);
+    /// assert_eq!(Book::open_with(&[7; 16], &fee)?.fee(), 250);
+    /// let more = Settings::desk().with_fee(1_001);
+    /// assert_eq!(Book::open_with(&[7; 16], &more), Err(Refusal::SettingsFee));
     /// # Ok::<(), Refusal>(())
     /// ```
     ///
     /// # Errors
     ///
     /// [`Refusal::Length`] where the id is not [`ID_SIZE`] bytes long, then [`Refusal::SettingsDelay`]
-    /// where the default delay is not 3,600 to 2,592,000.
+    /// where the default delay is not 3,600 to 2,592,000, then [`Refusal::SettingsFee`] where the fee
+    /// is above [`HIGHEST_FEE`](crate::HIGHEST_FEE).
     pub fn open_with(id: &[u8], settings: &Settings) -> Result<Book, Refusal> {
         let mut book = Book::from_raw(UNOPENED);
         book.reopen_with(id, settings)?;
@@ -140,7 +148,14 @@ impl Book {
     /// What a delay of 0 stands for in this book. A journal does not carry it: record it beside.
     #[must_use]
     pub const fn default_delay(&self) -> Seconds {
-        self.raw.setup.delay
+        Seconds(self.raw.setup.delay as u64)
+    }
+
+    /// Ten-thousandths of each payment to a merchant that the desk keeps. A journal does not carry
+    /// it: record it beside.
+    #[must_use]
+    pub const fn fee(&self) -> u32 {
+        self.raw.setup.fee
     }
 
     /// The clock.
@@ -186,7 +201,7 @@ const UNOPENED: raw::Book = {
     raw::Book {
         mark: 0,
         id: [0; ID_SIZE],
-        setup: raw::Setup { delay: Seconds(0) },
+        setup: raw::Setup { delay: 0, fee: 0 },
         clock: Seconds(0),
         channels: [channel; CHANNELS],
     }

@@ -36,7 +36,7 @@
 //!     merchant: &merchant.sign(0, &[3; 32], &message),
 //!     customer: &customer.sign(0, &[4; 32], &message),
 //! });
-//! let paid = Payments { customer: Cents(400), merchant: Cents(600) };
+//! let paid = Payments { customer: Cents(400), merchant: Cents(600), fee: Cents(0) };
 //! assert_eq!(book.apply(&command).paid(), Ok(paid));
 //! # Ok::<(), Refusal>(())
 //! ```

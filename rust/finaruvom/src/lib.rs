@@ -3,14 +3,15 @@
 //!
 //! A customer, as a café, and a merchant, as its bakery, or one of them alone, pay deposits into a
 //! channel of a [`Book`]. Commands, each a string of bytes that [`command`] makes, establish, fund,
-//! close, dispute and settle it. Every command gets an [`Answer`].
+//! close, dispute and settle it. Every command gets an [`Answer`]. Of each payment to the merchant
+//! the desk keeps the fee that the book was opened with.
 //!
 //! ```
 //! use finaruvom::command::{SetClock, Settle};
 //! use finaruvom::{Book, Cents, Payments, Refusal, Seconds};
 //!
 //! let mut book = Book::open(&[0; 16])?;
-//! let nothing = Payments { customer: Cents(0), merchant: Cents(0) };
+//! let nothing = Payments { customer: Cents(0), merchant: Cents(0), fee: Cents(0) };
 //! let answer = book.apply(&SetClock { time: Seconds(1_000) }.command());
 //! assert_eq!(answer.paid(), Ok(nothing));
 //! assert_eq!(book.clock(), Seconds(1_000));
@@ -73,8 +74,8 @@ pub use settings::Settings;
 pub use signature::{check, hash, Verdict};
 pub use signer::Signer;
 pub use sizes::{
-    BOOK_SIZE, CHANNELS, DESK_DELAY, DIGEST_SIZE, ENTRY_SIZE, ID_SIZE, KEY_SIZE, LARGEST_AMOUNT,
-    LAYOUT, LEAVES, LONGEST_DELAY, LONGEST_MESSAGE, NODES, NONCE_SIZE, PLAIN_DELAY, SEED_SIZE,
-    SHORTEST_DELAY, SIGNATURE_SIZE, SIGNER_SIZE,
+    BOOK_SIZE, CHANNELS, DESK_DELAY, DIGEST_SIZE, ENTRY_SIZE, HIGHEST_FEE, ID_SIZE, KEY_SIZE,
+    LARGEST_AMOUNT, LAYOUT, LEAVES, LONGEST_DELAY, LONGEST_MESSAGE, NODES, NONCE_SIZE, PLAIN_DELAY,
+    SEED_SIZE, SHORTEST_DELAY, SIGNATURE_SIZE, SIGNER_SIZE,
 };
 pub use units::{Cents, Seconds};

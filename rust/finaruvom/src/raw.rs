@@ -58,8 +58,10 @@ pub struct Channel {
 #[repr(C)]
 #[derive(Clone, Copy, Debug, PartialEq, Eq, Hash)]
 pub struct Setup {
-    /// The default delay, which a 0 in command 02 stands for.
-    pub delay: Seconds,
+    /// The default delay in seconds, which a 0 in command 02 stands for.
+    pub delay: u32,
+    /// The fee, in ten-thousandths of each payment to a merchant.
+    pub fee: u32,
 }
 
 /// A book as it is stored. Any values may stand in it: an unsound one is refused with 99.
@@ -92,6 +94,8 @@ pub struct Book {
 pub struct Settings {
     /// The default delay, 3,600 to 2,592,000.
     pub delay: u32,
+    /// The fee in ten-thousandths, at most 1,000.
+    pub fee: u32,
 }
 
 /// What a command answers.
@@ -101,12 +105,14 @@ pub struct Settings {
 pub struct Answer {
     /// Paid to the customer.
     pub customer: Cents,
-    /// Paid to the merchant.
+    /// Paid to the merchant, without the fee.
     pub merchant: Cents,
     /// Chain steps of the signature checks made.
     pub steps: u32,
     /// The refusal's number, or 0.
     pub refusal: u32,
+    /// What the desk keeps of the payment to the merchant.
+    pub fee: Cents,
 }
 
 /// A line of a run: the answer to one command.

@@ -32,6 +32,7 @@ numbered! {
         Payment = 17: "no entry holds the payment's party, channel or amount",
         Room = 18: "the buffer or the list is too short, or the bytes are no multiple of 11",
         Entry = 19: "an entry is not as one is written",
+        SettingsFee = 20: "the fee of the settings is above 1,000 ten-thousandths",
         Unsound = 99: "the book is of no opening or another layout, or a value is out of range",
     }
 }

@@ -2,7 +2,7 @@
 use crate::units::Cents;
 
 /// The number of the book's layout, which the mark of every book carries.
-pub const LAYOUT: u32 = 4;
+pub const LAYOUT: u32 = 5;
 /// Channels of a book.
 pub const CHANNELS: usize = 64;
 /// Bytes of a stored book.
@@ -39,3 +39,5 @@ pub const LONGEST_DELAY: u32 = 2_592_000;
 pub const PLAIN_DELAY: u32 = 86_400;
 /// What a delay of 0 stands for in a new book of the desk.
 pub const DESK_DELAY: u32 = 172_800;
+/// The highest fee, in ten-thousandths of what a merchant is paid.
+pub const HIGHEST_FEE: u32 = 1_000;

@@ -5,7 +5,7 @@ use finaruvom::command::{Establish, SetClock, Settle};
 use finaruvom::raw::finaruvom_apply;
 use finaruvom::{
     check, hash, Answer, Book, Cause, Cents, Line, Payments, Ran, Reading, Refusal, Seconds,
-    Settings, Status, Verdict,
+    Settings, Status, Verdict, HIGHEST_FEE,
 };
 
 /// A command that sets the clock.
@@ -59,13 +59,35 @@ fn openings_with_settings() {
         let book = open(16, delay).unwrap();
         assert_eq!(book.default_delay(), Seconds(u64::from(delay)));
         let mut plain = book.as_raw().clone();
-        plain.setup.delay = Seconds(86_400);
+        plain.setup.delay = 86_400;
         assert_eq!(Book::open(&[7; 16]), Ok(Book::from_raw(plain)));
         assert_eq!(open(15, delay), Err(Refusal::Length));
     }
     for delay in [0, 3_599, 2_592_001, u32::MAX] {
         assert_eq!(open(16, delay), Err(Refusal::SettingsDelay));
         assert_eq!(open(15, delay), Err(Refusal::Length));
+    }
+}
+
+#[test]
+fn openings_with_a_fee() {
+    let open = |length: usize, settings: &Settings| Book::open_with(&vec![7; length], settings);
+    assert_eq!(open(16, &Settings::desk()).unwrap().fee(), 0);
+    for fee in [0, 1, 250, HIGHEST_FEE] {
+        let book = open(16, &Settings::default().with_fee(fee)).unwrap();
+        assert_eq!((book.fee(), book.default_delay()), (fee, Seconds(86_400)));
+        let mut plain = book.as_raw().clone();
+        plain.setup.fee = 0;
+        assert_eq!(Book::open(&[7; 16]), Ok(Book::from_raw(plain)));
+    }
+    for fee in [HIGHEST_FEE + 1, 10_000, 1 << 16, u32::MAX] {
+        let settings = Settings::default().with_fee(fee);
+        assert_eq!(open(16, &settings), Err(Refusal::SettingsFee));
+        assert_eq!(open(15, &settings), Err(Refusal::Length));
+        // The default delay is looked at before the fee, and the id before both.
+        let both = settings.with_delay(3_599);
+        assert_eq!(open(16, &both), Err(Refusal::SettingsDelay));
+        assert_eq!(open(17, &both), Err(Refusal::Length));
     }
 }
 
@@ -80,9 +102,12 @@ fn openings_over_a_book() {
         Err(Refusal::SettingsDelay)
     );
     assert_eq!(book.reopen_with(&[8; 17], &none), Err(Refusal::Length));
+    let more = Settings::desk().with_fee(1_001);
+    assert_eq!(book.reopen_with(&[8; 16], &more), Err(Refusal::SettingsFee));
     assert_eq!(book, before);
-    assert_eq!(book.reopen_with(&[8; 16], &Settings::desk()), Ok(()));
-    assert_eq!(book.clock(), Seconds(0));
+    let fee = Settings::desk().with_fee(1_000);
+    assert_eq!(book.reopen_with(&[8; 16], &fee), Ok(()));
+    assert_eq!((book.clock(), book.fee()), (Seconds(0), 1_000));
     assert_ne!(Ok(book.clone()), Book::open(&[8; 16]));
     assert_eq!(book.reopen(&[8; 16]), Ok(()));
     assert_eq!(Ok(book), Book::open(&[8; 16]));
@@ -131,6 +156,35 @@ fn answers() {
     let answer = unsafe { finaruvom_apply(&raw mut raw, command.as_ptr(), command.len()) };
     assert_eq!(*refused.as_raw(), answer);
     assert_eq!(format!("{refused:?}"), format!("{answer:?}"));
+}
+
+/// A book with this fee in which channel 1 is settled for a merchant who has 1,000.
+fn settling(fee: u32) -> Book {
+    let book = Book::open_with(&[7; 16], &Settings::default().with_fee(fee)).unwrap();
+    let mut raw = book.as_raw().clone();
+    raw.channels[1].status = 4;
+    raw.channels[1].delay = 3_600;
+    raw.channels[1].merchant.deposit = Cents(1_000);
+    Book::from_raw(raw)
+}
+
+#[test]
+fn fees() {
+    for (fee, kept) in [(0, 0), (9, 0), (10, 1), (250, 25), (999, 99), (1_000, 100)] {
+        let mut book = settling(fee);
+        let answer = book.apply(&Settle { channel: 1 }.command());
+        let paid = Payments {
+            customer: Cents(0),
+            merchant: Cents(1_000 - kept),
+            fee: Cents(kept),
+        };
+        assert_eq!(answer.paid(), Ok(paid));
+        assert_eq!(answer.as_raw().fee, Cents(kept));
+        assert_eq!(book.fee(), fee);
+        let again = book.apply(&Settle { channel: 1 }.command());
+        assert_eq!(again.paid(), Err(Refusal::Status));
+        assert_eq!(again.as_raw().fee, Cents(0));
+    }
 }
 
 #[test]
@@ -194,6 +248,7 @@ fn refusals_by_number() {
         (Refusal::Payment, 17),
         (Refusal::Room, 18),
         (Refusal::Entry, 19),
+        (Refusal::SettingsFee, 20),
         (Refusal::Unsound, 99),
     ];
     for (refusal, number) in numbers {

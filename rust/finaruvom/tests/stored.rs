@@ -8,7 +8,7 @@ use finaruvom::{
 
 const ID: [u8; 16] = *b"the book's id 01";
 /// What every opening writes: the word and the layout.
-const MARK: u64 = u64::from_be_bytes(*b"arbiter\x04");
+const MARK: u64 = u64::from_be_bytes(*b"arbiter\x05");
 
 /// A book that holds these bytes, whatever they are.
 fn holding(bytes: &[u8; BOOK_SIZE]) -> Book {
@@ -38,7 +38,7 @@ fn fresh() -> Book {
     Book::open(&ID).unwrap()
 }
 
-/// A book with a channel in use.
+/// A book with a fee and a channel in use.
 fn used() -> Book {
     let [customer_key, merchant_key] = parties::keys();
     let establish = Establish {
@@ -56,7 +56,7 @@ fn used() -> Book {
     let clock = SetClock {
         time: Seconds(1_000),
     };
-    let mut book = fresh();
+    let mut book = Book::open_with(&ID, &Settings::default().with_fee(250)).unwrap();
     for command in [&clock.command()[..], &establish.command(), &fund.command()] {
         assert_eq!(book.apply(command).refused(), None);
     }
@@ -82,7 +82,7 @@ fn fresh_over_any_contents() {
     let mut expected = [0; BOOK_SIZE];
     expected[..8].copy_from_slice(&MARK.to_le_bytes());
     expected[8..24].copy_from_slice(&ID);
-    expected[24..32].copy_from_slice(&86_400_u64.to_le_bytes());
+    expected[24..28].copy_from_slice(&86_400_u32.to_le_bytes());
     assert!(*fresh().as_bytes() == expected);
     for contents in former() {
         let mut book = holding(&contents);
@@ -90,6 +90,8 @@ fn fresh_over_any_contents() {
         assert!(*book.as_bytes() == contents);
         let none = Settings::default().with_delay(0);
         assert_eq!(book.reopen_with(&ID, &none), Err(Refusal::SettingsDelay));
+        let more = Settings::default().with_fee(1_001);
+        assert_eq!(book.reopen_with(&ID, &more), Err(Refusal::SettingsFee));
         assert!(*book.as_bytes() == contents);
         assert_eq!(book.reopen(&ID), Ok(()));
         assert!(*book.as_bytes() == expected);
@@ -99,11 +101,26 @@ fn fresh_over_any_contents() {
     }
 }
 
+/// Default and fee stand behind the id, in four bytes each.
+#[test]
+fn settings_over_any_contents() {
+    let mut expected = *fresh().as_bytes();
+    expected[24..28].copy_from_slice(&172_800_u32.to_le_bytes());
+    expected[28..32].copy_from_slice(&999_u32.to_le_bytes());
+    for contents in former() {
+        let mut book = holding(&contents);
+        let settings = Settings::desk().with_fee(999);
+        assert_eq!(book.reopen_with(&ID, &settings), Ok(()));
+        assert!(*book.as_bytes() == expected);
+    }
+}
+
 /// The values of one book, written into another one by one.
 fn copy_values(from: &raw::Book, to: &mut raw::Book) {
     to.mark = from.mark;
     to.id = from.id;
     to.setup.delay = from.setup.delay;
+    to.setup.fee = from.setup.fee;
     to.clock = from.clock;
     for (from, to) in from.channels.iter().zip(&mut to.channels) {
         to.customer.key = from.customer.key;
@@ -146,10 +163,11 @@ fn wrong_lengths() {
 /// The books that versions wrote, one of each layout.
 #[test]
 fn written_by_versions() {
-    let former: [&[u8]; 3] = [
+    let former: [&[u8]; 4] = [
         include_bytes!("../../../tests/books/layout-1.bin"),
         include_bytes!("../../../tests/books/layout-2.bin"),
         include_bytes!("../../../tests/books/layout-3.bin"),
+        include_bytes!("../../../tests/books/layout-4.bin"),
     ];
     for stored in former {
         assert_eq!(Book::from_bytes(stored), Err(Refusal::Unsound));
@@ -158,9 +176,9 @@ fn written_by_versions() {
         assert_eq!(Book::from_bytes(&resized), Err(Refusal::Unsound));
     }
 
-    let book = Book::from_bytes(include_bytes!("../../../tests/books/layout-4.bin")).unwrap();
+    let book = Book::from_bytes(include_bytes!("../../../tests/books/layout-5.bin")).unwrap();
     assert_eq!(book.clock(), Seconds(1_793_671_200));
-    assert_eq!(book.default_delay(), Seconds(86_400));
+    assert_eq!((book.default_delay(), book.fee()), (Seconds(86_400), 250));
     assert_eq!(book.as_raw().channels[1].delay, 86_400);
     let closing = book.read(2).unwrap();
     assert_eq!(closing.status, Status::CustomerClosing);
@@ -207,7 +225,7 @@ fn closing() -> raw::Book {
 
 #[test]
 fn other_layouts() {
-    let others = (0..=u8::MAX).filter(|layout| *layout != 4);
+    let others = (0..=u8::MAX).filter(|layout| *layout != 5);
     // 0x21 is that of the books which were written before layouts had numbers.
     let marks = others.map(|layout| MARK & !0xff | u64::from(layout));
     for mark in marks.chain([0, u64::MAX, MARK.swap_bytes()]) {
@@ -229,9 +247,14 @@ fn values_out_of_range() {
         raw.channels[63].delay = delay;
         refused(&raw);
     }
-    for default in [0, 3_599, 2_592_001, (1 << 32) + 86_400, 1 << 63, u64::MAX] {
+    for default in [0, 3_599, 2_592_001, u32::MAX] {
         let mut raw = closing();
-        raw.setup.delay = Seconds(default);
+        raw.setup.delay = default;
+        refused(&raw);
+    }
+    for fee in [1_001, 10_000, 1 << 16, u32::MAX] {
+        let mut raw = closing();
+        raw.setup.fee = fee;
         refused(&raw);
     }
     let mut raw = closing();

@@ -16,7 +16,7 @@ establish-from-requires : tie.Need-establish-from-requires
 unfolding size
 establish-from-requires c κs =
     let c₂ = c .before .before in
-    (c₂ .pre .4, rw (c .match .keys1) at (c₂ .pre .2))
+    rw (c .match .keys1) at (c₂ .pre .2)
 
 u64-at-requires : tie.Need-u64-at-requires
 unfolding size
@@ -46,13 +46,13 @@ customer-close-requires : tie.Need-customer-close-requires
 unfolding size
 customer-close-requires c κs =
     let c₂ = c .before .before in
-    (c₂ .pre .3, c₂ .pre .5, rw (c .match .keys6) at (c₂ .pre .2))
+    (c₂ .pre .3, c₂ .pre .4, rw (c .match .keys6) at (c₂ .pre .2))
 
 merchant-close-requires : tie.Need-merchant-close-requires
 unfolding size
 merchant-close-requires c κs =
     let c₂ = c .before .before in
-    (c₂ .pre .5, rw (c .match .keys7) at (c₂ .pre .2))
+    (c₂ .pre .4, rw (c .match .keys7) at (c₂ .pre .2))
 
 dispute-requires : tie.Need-dispute-requires
 unfolding size

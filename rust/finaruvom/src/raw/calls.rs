@@ -18,7 +18,7 @@ extern "C" {
     ///
     /// Nothing is asked.
     #[must_use]
-    pub fn finaruvom_layout_4() -> u32;
+    pub fn finaruvom_layout_5() -> u32;
 
     /// Writes the digest of at most 65,536 bytes and answers 0; of more, zeros and 2.
     ///
@@ -80,7 +80,7 @@ extern "C" {
     pub fn finaruvom_open(book: *mut Book, id: *const u8, id_n: usize) -> u32;
 
     /// Makes any lent book fresh, with these settings, and answers 0; an id that is not 16 bytes
-    /// long gives 2, then a default delay out of range 14.
+    /// long gives 2, then a default delay out of range 14, then a fee above 1,000 20.
     ///
     /// # Safety
     ///
@@ -158,8 +158,8 @@ extern "C" {
         message_n: usize,
     ) -> Signature;
 
-    /// Collects the payments of a run from its commands and lines; a list that is too short gives
-    /// 18.
+    /// Collects the payments of a run from its commands and lines, the merchant's without the fee;
+    /// a list that is too short gives 18.
     ///
     /// # Safety
     ///

@@ -27,11 +27,11 @@ laid_out!(Party, 64, 8: key at 0, deposit at 56);
 laid_out!(Leaves, 8, 4: first at 0, second at 4);
 laid_out!(Channel, 192, 8: customer at 0, merchant at 64, deadline at 128, kept at 136,
     delay at 144, status at 148, lock at 152, leaves at 184);
-laid_out!(Setup, 8, 8: delay at 0);
+laid_out!(Setup, 8, 4: delay at 0, fee at 4);
 laid_out!(Book, BOOK_SIZE, 8: mark at 0, id at 8, setup at 24, clock at 32, channels at 40);
-laid_out!(Settings, 4, 4: delay at 0);
-laid_out!(Answer, 24, 8: customer at 0, merchant at 8, steps at 16, refusal at 20);
-laid_out!(Line, 24, 8: answer at 0);
+laid_out!(Settings, 8, 4: delay at 0, fee at 4);
+laid_out!(Answer, 32, 8: customer at 0, merchant at 8, steps at 16, refusal at 20, fee at 24);
+laid_out!(Line, 32, 8: answer at 0);
 laid_out!(Reading, 72, 8: total at 0, held at 8, deadline at 16, kept at 24, refusal at 32,
     status at 36, lock at 40);
 laid_out!(Found, 2, 1: some at 0, channel at 1);

@@ -3,7 +3,7 @@ use crate::{payment, FORMER};
 use finaruvom::bank::{collect, Payee, Payment};
 use finaruvom::command::{CustomerClose, Establish, FundCustomer, FundMerchant, MutualClose};
 use finaruvom::command::{SetClock, Settle, Signatures};
-use finaruvom::{hash, Book, Cents, Line, Refusal, Seconds, SIGNATURE_SIZE};
+use finaruvom::{hash, Book, Cents, Line, Refusal, Seconds, Settings, SIGNATURE_SIZE};
 use oracle::Signer;
 
 const ID: [u8; 16] = *b"the book's id 01";
@@ -91,11 +91,11 @@ fn paid() -> [Payment; 4] {
     ]
 }
 
-/// The journal and its lines; one more line than it has commands.
-fn ran() -> (Vec<u8>, [Line; 12]) {
+/// The journal and its lines in a book with this fee; one more line than it has commands.
+fn ran(fee: u32) -> (Vec<u8>, [Line; 12]) {
     let journal = journal();
     let mut lines = [Line::default(); 12];
-    let mut book = Book::open(&ID).unwrap();
+    let mut book = Book::open_with(&ID, &Settings::default().with_fee(fee)).unwrap();
     assert_eq!(book.run(&journal, &mut lines).lines, 11);
     assert_eq!(lines[8].answer.refused(), Some(Refusal::Deadline));
     // Behind the last command nothing is collected, whatever stands there.
@@ -105,7 +105,7 @@ fn ran() -> (Vec<u8>, [Line; 12]) {
 
 #[test]
 fn lists() {
-    let (journal, lines) = ran();
+    let (journal, lines) = ran(0);
     for room in 0..4 {
         let mut list = vec![FORMER; room];
         assert_eq!(collect(&journal, &lines, &mut list), Err(Refusal::Room));
@@ -119,10 +119,27 @@ fn lists() {
     }
 }
 
+/// The merchant's payments without their fees, which are nobody's; the customer's whole.
+#[test]
+fn without_the_fee() {
+    for (fee, [mutual, close]) in [(250, [15, 7]), (1, [0, 0]), (1_000, [60, 30])] {
+        let (journal, lines) = ran(fee);
+        let fees = [6, 7].map(|at| lines[at].answer.as_raw().fee);
+        assert_eq!(fees, [Cents(mutual), Cents(close)]);
+        let mut expected = paid();
+        expected[1].amount.0 -= mutual;
+        expected[2].amount.0 -= close;
+        let mut list = [FORMER; 5];
+        assert_eq!(collect(&journal, &lines, &mut list), Ok(4));
+        assert_eq!(list[..4], expected);
+        assert_eq!(list[4], FORMER);
+    }
+}
+
 /// It ends where the run would.
 #[test]
 fn ends() {
-    let (journal, lines) = ran();
+    let (journal, lines) = ran(0);
     let collected = |journal: &[u8], count: usize| {
         let mut list = [FORMER; 8];
         let count = collect(journal, &lines[..count], &mut list).unwrap();
@@ -145,7 +162,7 @@ fn ends() {
 /// command's own.
 #[test]
 fn lines_beside_other_commands() {
-    let (_, lines) = ran();
+    let (_, lines) = ran(0);
     let paying = [lines[6]; 3];
     let settle = |channel| Settle { channel }.command();
     let clock = SetClock { time: Seconds(0) }.command();

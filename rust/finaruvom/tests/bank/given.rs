@@ -19,12 +19,13 @@ fn payment([party, channel, amount]: [u64; 3]) -> Payment {
     }
 }
 
-fn line([refusal, customer, merchant, steps]: [u64; 4]) -> Line {
+fn line([refusal, customer, merchant, steps, fee]: [u64; 5]) -> Line {
     let answer = Answer {
         customer: Cents(customer),
         merchant: Cents(merchant),
         steps: steps.try_into().unwrap(),
         refusal: refusal.try_into().unwrap(),
+        fee: Cents(fee),
     };
     Line { answer }
 }

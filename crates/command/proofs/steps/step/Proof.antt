@@ -8,8 +8,9 @@ use Rattle.machine.specs.Format.{opcode, size}
 use Rattle.machine.specs.Checks.{clean, judge}
 use Rattle.machine.specs.Machine.{shared}
 use Rattle.machine.specs.declared.state.Book.{Book}
-use Rattle.command.proofs.SoundBook.{sound-at, sound-context, Tested, tested-none, tested-more, tested-all}
+use Rattle.command.proofs.SoundBook.{sound-at, Tested, tested-none, tested-more, tested-all}
 use Rattle.wire.proofs.Laws.{length-of-map}
+use Rattle.machine.proofs.Laws.{setup-limits, sound-context}
 use Rattle.command.proofs.Stepping.{Shared, shared-by, shared-ok, least, step-stops, step-clock, step-far, step-channel}
 use borrow.Author.Needs.{needs}
 use Rattle.command.proofs.steps.step.Statement.{statement}
@@ -79,8 +80,12 @@ rule-requires c κs =
     let e = c .before .before .before .before .before .before in
     let h = agreed (e .before) in
     let op = op-is (e .before .before .before .before) in
-    let k = sound-context _ (h .steady) in
-    (rw op (second _ (h .low) (λ z. e .if2 .left (op ∙ z))), rw op (h .high), rw op (h .sized), sound-at _ _ (h .steady), k .0, k .1)
+    (rw op (second _ (h .low) (λ z. e .if2 .left (op ∙ z))), rw op (h .high), rw op (h .sized), sound-at _ _ (h .steady), (sound-context _ (h .steady)) .1)
+
+charged-requires : tie.Need-charged-requires Inv-loop μ-loop
+charged-requires c κs =
+    let y = c .before .before .before .before .before .before .before .before in
+    setup-limits (b (y .before .before .before) .setup) (sound-context _ (agreed y .steady) .0) .1
 
 -- A 01.
 returns : tie.Need-returns Inv-loop μ-loop
@@ -94,13 +99,14 @@ returns c =
 -- A command of a channel.
 returns-2 : tie.Need-returns-2 Inv-loop μ-loop
 returns-2 c =
-    let d = c .before .before in
+    let g = c .before in
+    let d = g .before in
     let t = d .before .before .before .before .before in
     let n = t .before in
     let e = n .before in
     let y = e .before in
     let k = y .before .before .before in
-    rw (n .u16-at .ensures)
+    rw (n .u16-at .ensures, g .charged .ensures)
     (step-channel _ _ (b k) (s k) _ (checked k) (y .if1 .taken) (k .shared-checks .ensures .1) (λ z. e .if2 .left (op-is k ∙ z)) (rw (← n .u16-at .ensures) (t .if3 .taken)) _ (d .rule .ensures ∙ rw (op-is k, n .u16-at .ensures)))
 
 -- A channel that is far.
@@ -144,6 +150,7 @@ step-spec =
     (λ c. search needs)
     (λ c. search needs)
     rule-requires
+    charged-requires
     (λ c. search needs)
     (λ c. search needs)
     (λ c κs. search needs)
