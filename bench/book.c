@@ -20,10 +20,10 @@ struct row {
     uint32_t refusal, status;
 };
 
-// A book whose 64 channels are all in use, in the status that the row wants.
+// A book with a fee whose 64 channels are all in use, in the status that the row wants.
 static void fill(uint32_t status) {
     static const uint8_t id[16] = {7};
-    if (finaruvom_open(&full, id, 16) != 0)
+    if (finaruvom_open_with(&full, id, 16, (struct finaruvom_settings){FINARUVOM_PLAIN_DELAY, 250}) != 0)
         exit(1);
     for (int i = 0; i < 64; i++)
         full.channels[i] = (struct finaruvom_channel){
@@ -63,7 +63,7 @@ static double timed_copies(struct finaruvom_book *books) {
 }
 
 static bool same(const struct finaruvom_answer *a, const struct finaruvom_answer *b) {
-    return a->refusal == b->refusal && a->customer == b->customer && a->merchant == b->merchant && a->steps == b->steps;
+    return a->refusal == b->refusal && a->customer == b->customer && a->merchant == b->merchant && a->steps == b->steps && a->fee == b->fee;
 }
 
 typedef struct finaruvom_ran run(struct finaruvom_book *, const uint8_t *, size_t, struct finaruvom_line *, size_t);
@@ -110,6 +110,7 @@ int main(void) {
         {"03 fund customer", {3, 0, 5, 0, 0, 0, 0, 0, 0, 3, 132}, 11, 0, 1},
         {"04 fund merchant", {4, 0, 5, 0, 0, 0, 0, 0, 0, 0, 100}, 11, 0, 2},
         {"0A settle", {10, 0, 5}, 3, 0, 5},
+        {"0A settle with a fee", {10, 0, 5}, 3, 0, 4},
         {"refused with 1", {0}, 0, 1, 3},
         {"refused with 5", {10, 0, 5}, 3, 5, 3},
         {"refused with 8", {3, 0, 5, 0, 0, 0, 0, 0, 0, 3, 131}, 11, 8, 1},

@@ -1,4 +1,4 @@
-// Written from documents 01 and 02 (No. 1 and 2), as a program in C would have it: no copy of the book.
+// Written from documents 01 and 02 (No. 1, 2 and 7), as a program in C would have it: no copy of the book.
 #include "book.h"
 #include <string.h>
 
@@ -23,7 +23,7 @@ static bool sound_channel(const struct finaruvom_channel *ch) {
 }
 
 static bool sound(const struct finaruvom_book *book) {
-    bool ok = book->mark == MARK && delay_fits(book->setup.delay) && book->clock <= MOST;
+    bool ok = book->mark == MARK && delay_fits(book->setup.delay) && book->setup.fee <= 1000 && book->clock <= MOST;
     for (int i = 0; i < 64; i++)
         ok &= sound_channel(&book->channels[i]);
     return ok;
@@ -65,15 +65,17 @@ static struct finaruvom_answer refuse(uint32_t refusal) {
     return (struct finaruvom_answer){.refusal = refusal};
 }
 
-static struct finaruvom_answer settle(struct finaruvom_channel *ch, uint64_t clock) {
+static struct finaruvom_answer settle(struct finaruvom_channel *ch, uint64_t clock, uint32_t fee) {
     if (ch->status != 4 && ch->status != 5)
         return refuse(5);
     if (clock < ch->deadline)
         return refuse(9);
-    struct finaruvom_answer answer = {0, 0, 0, 0};
-    if (ch->status == 4)
-        answer.merchant = ch->customer.deposit + ch->merchant.deposit;
-    else
+    struct finaruvom_answer answer = {0};
+    if (ch->status == 4) {
+        uint64_t total = ch->customer.deposit + ch->merchant.deposit;
+        answer.fee = (uint64_t)((unsigned __int128)total * fee / 10000);
+        answer.merchant = total - answer.fee;
+    } else
         answer.customer = ch->kept;
     ch->status = 6;
     return answer;
@@ -104,7 +106,7 @@ struct finaruvom_answer plain_apply(struct finaruvom_book *book, const uint8_t *
         return refuse(establish(ch, command, book->setup.delay));
     if (op == 3 || op == 4)
         return refuse(fund(ch, op, number(command + 3, 8)));
-    return op == 10 ? settle(ch, book->clock) : refuse(5);
+    return op == 10 ? settle(ch, book->clock, book->setup.fee) : refuse(5);
 }
 
 struct finaruvom_ran plain_run(struct finaruvom_book *book, const uint8_t *commands, size_t n, struct finaruvom_line *lines, size_t lines_n) {

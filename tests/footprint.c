@@ -8,7 +8,7 @@
 #include <string.h>
 #include <ucontext.h>
 
-enum { N = 5, CLOCK = 1000, STACK = 1 << 19, PAINT = 0xA5, MUTUAL = 5, MAKING_COPIES = 1, SIGNING_COPIES = 3, SETTLES = 1024, PAYMENTS = 2 * SETTLES };
+enum { N = 5, CLOCK = 1000, FEE = 250, STACK = 1 << 19, PAINT = 0xA5, MUTUAL = 5, MAKING_COPIES = 1, SIGNING_COPIES = 3, SETTLES = 1024, PAYMENTS = 2 * SETTLES };
 
 // What a call is lent, how often it copies that at most, and how many bytes it copies in all; a key making copies some 780 for each leaf.
 struct lent {
@@ -28,14 +28,14 @@ static struct finaruvom_answer answer;
 static struct finaruvom_line lines[3];
 static struct finaruvom_ran ran;
 
-// A command of each kind on a full book, and refusals. A signature that is refused with 11 or 12 was walked to its end.
+// A command of each kind on a full book with a fee, and refusals. A signature that is refused with 11 or 12 was walked to its end.
 static const struct row {
     const char *name;
     uint8_t op;
     uint32_t status, refusal;
     uint64_t deadline;
     size_t size, cents_at, signature_at; // 0: it has none
-    uint64_t first, second;
+    uint64_t first, second, fee;
 } rows[] = {
     {"01 clock", .op = 1, .size = 9, .status = 3, .cents_at = 1, .first = CLOCK + 1},
     {"02 establish", .op = 2, .size = 135, .status = 0, .cents_at = 115, .first = 900, .second = 100},
@@ -47,6 +47,7 @@ static const struct row {
     {"08 merchant closes", .op = 8, .size = 1455, .status = 3, .signature_at = 3, .refusal = 11},
     {"09 dispute", .op = 9, .size = 1487, .status = 5, .deadline = CLOCK + 1, .signature_at = 35, .refusal = 11},
     {"0A settle", .op = 10, .size = 3, .status = 5, .deadline = CLOCK},
+    {"0A settle with a fee", .op = 10, .size = 3, .status = 4, .deadline = CLOCK, .fee = 25},
     {"refused with 1", .op = 11, .size = 3, .status = 3, .refusal = 1},
     {"refused with 5", .op = 10, .size = 3, .status = 3, .refusal = 5},
     {"refused with 99", .op = 10, .size = 3, .status = 7, .refusal = 99},
@@ -61,7 +62,7 @@ static void typed(uint8_t *key, uint8_t last) {
 // A book whose 64 channels are all in this status.
 static void fill(uint32_t status, uint64_t deadline) {
     static const uint8_t id[16] = {7}, secret[32] = {0};
-    if (finaruvom_open(&book, id, 16) != 0)
+    if (finaruvom_open_with(&book, id, 16, (struct finaruvom_settings){FINARUVOM_PLAIN_DELAY, FEE}) != 0)
         exit(1);
     book.clock = CLOCK;
     for (int i = 0; i < 64; i++) {
@@ -122,7 +123,7 @@ static void open_book(void) {
     answer.refusal = finaruvom_open(&book, id, 16);
 }
 
-// An opening with the desk's default, and one whose default is refused.
+// An opening with the desk's default, one whose default is refused, and one whose fee is.
 static void open_desk_book(void) {
     static const uint8_t id[16] = {9};
     answer.refusal = finaruvom_open_with(&book, id, 16, finaruvom_desk_settings());
@@ -131,6 +132,12 @@ static void open_desk_book(void) {
 static void open_without_default(void) {
     static const uint8_t id[16] = {9};
     answer = (struct finaruvom_answer){.refusal = finaruvom_open_with(&book, id, 16, (struct finaruvom_settings){0})};
+}
+
+static void open_with_a_higher_fee(void) {
+    static const uint8_t id[16] = {9};
+    static const struct finaruvom_settings settings = {FINARUVOM_PLAIN_DELAY, FINARUVOM_HIGHEST_FEE + 1};
+    answer = (struct finaruvom_answer){.refusal = finaruvom_open_with(&book, id, 16, settings)};
 }
 
 static void read_channel(void) {
@@ -233,9 +240,10 @@ static void keeps_no_list(size_t check_took) {
 }
 
 static uint32_t refusal;
+static uint64_t fee;
 
 static bool refused(void) {
-    return answer.refusal == refusal && (answer.steps != 0) == (refusal == 11 || refusal == 12);
+    return answer.refusal == refusal && answer.fee == fee && (answer.steps != 0) == (refusal == 11 || refusal == 12);
 }
 
 static bool ran_all(void) {
@@ -279,7 +287,7 @@ static void measure_bank(const char *name, void (*call)(void), uint32_t expected
 static void bank(void) {
     for (size_t i = 0; i < SETTLES; i++) {
         settles[3 * i] = 10;
-        paid[i].answer = (struct finaruvom_answer){.customer = i + 1, .merchant = FINARUVOM_LARGEST_AMOUNT - i};
+        paid[i].answer = (struct finaruvom_answer){.customer = i + 1, .merchant = FINARUVOM_LARGEST_AMOUNT - i, .fee = i + 1};
     }
     measure_bank("collect", collect, 0);
     measure_bank("write", write_payments, 0);
@@ -304,7 +312,7 @@ int main(int argc, char **argv) {
         const struct row *row = &rows[i];
         fill(row->status, row->deadline);
         file(row);
-        refusal = row->refusal;
+        refusal = row->refusal, fee = row->fee;
         measure(row->name, apply, refused, 1, FINARUVOM_STACK_APPLY);
     }
     fill(5, CLOCK);
@@ -321,6 +329,8 @@ int main(int argc, char **argv) {
     measure("open with settings", open_desk_book, answered_0, 1, FINARUVOM_STACK_OPEN);
     refusal = 14;
     measure("open refused with 14", open_without_default, refused, 1, FINARUVOM_STACK_OPEN);
+    refusal = 20;
+    measure("open refused with 20", open_with_a_higher_fee, refused, 1, FINARUVOM_STACK_OPEN);
     signers(makes);
     bank();
     return wrong;

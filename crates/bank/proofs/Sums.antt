@@ -11,15 +11,14 @@ use lib.ListN.{length}
 use lib.Seq.{getD-take}
 use Rattle.wire.proofs.Laws.{and-make}
 use Rattle.sha256.specs.Digest.{sha256}
-use Rattle.machine.specs.Book.{cents}
-use Rattle.machine.specs.Format.{opcode, place, time}
+use Rattle.machine.specs.Format.{opcode, place}
 use Rattle.machine.specs.Opening.{opening}
-use Rattle.machine.specs.Checks.{clean, passed, judge}
 use Rattle.machine.specs.Rules.{pay}
 use Rattle.machine.specs.Rules.{Payment as Pays}
-use Rattle.machine.specs.Machine.{Order, answer, shared, setClock, order, step}
+use Rattle.machine.specs.Machine.{answer, order}
 use Rattle.machine.specs.Real.{lmsVerdict, realStep}
-use Rattle.machine.specs.Ledger.{Entry, Event, accepted, ofChannel, sum, strings, clock}
+use Rattle.machine.specs.Ledger.{Entry, Event, Shares, accepted, ofChannel, sum, paid, strings, clock}
+use Rattle.machine.specs.declared.units.Cents.{Cents}
 use Rattle.machine.specs.declared.state.Book.{Book}
 use Rattle.machine.specs.declared.answers.Answer.{Answer}
 use Rattle.machine.specs.declared.answers.Stepped.{Stepped}
@@ -33,7 +32,7 @@ use Rattle.journal.specs.Calls.{Call, called}
 use Rattle.journal.proofs.Called.{journal-demand}
 use Rattle.journal.proofs.Turning.{fits, ahead, command, line, rest, with-lines, Claim, AtStop, AtTurn, by-turns}
 use Rattle.bank.specs.Collected.{above, paidIn, collected}
-use Rattle.bank.specs.AddsUp.{paidTo, paidToIn, CollectedAddsUp, ClosedSplit}
+use Rattle.bank.specs.AddsUp.{paidTo, paidToIn, Sides, CollectedAddsUp, ClosedSplit}
 use Rattle.bank.proofs.Commands.{Known, known, collected-stop, collected-go}
 
 -- ---- sums
@@ -66,16 +65,16 @@ module _ (b : Book) (s : List ℕ) where
 
   -- 01 pays nothing.
   clock-pays : opcode s ≡ 1 → (said .customer .0 ≡ 0) × (said .merchant .0 ≡ 0)
-  unfolding step answer
-  clock-pays e = go (passed (judge clean (shared b s ((order lmsVerdict sha256 b s) .checks)))) (ap (λ (o : Order). o .pays) ordered)
+  clock-pays e = go (eqb (said .refusal) 0) refl
     where
-      ordered : order lmsVerdict sha256 b s ≡ setClock b (time s)
+      ordered : (order lmsVerdict sha256 b s) .pays ≡ pay 0 0
       ordered = rw (eq-eqb (opcode s) 1 e)
 
-      go : (x : Bool) → (order lmsVerdict sha256 b s) .pays ≡ pay 0 0
-          → ((cond x ((order lmsVerdict sha256 b s) .pays .customer) (cents 0)) .0 ≡ 0) × ((cond x ((order lmsVerdict sha256 b s) .pays .merchant) (cents 0)) .0 ≡ 0)
-      go true q = (ap (λ (p : Pays). p .customer .0) q, ap (λ (p : Pays). p .merchant .0) q)
-      go false q = (refl, refl)
+      go : (x : Bool) → eqb (said .refusal) 0 ≡ x → (said .customer .0 ≡ 0) × (said .merchant .0 ≡ 0)
+      go true z =
+          let d = right-turns lmsVerdict sha256 .divides b s (eqb-true _ _ z) in
+          (ap (λ (x : Cents). x .0) (d .customer) ∙ ap (λ (p : Pays). p .customer .0) ordered, omega (arith, d .whole, ap (λ (p : Pays). p .merchant .0) ordered))
+      go false z = refused-pays (eqb-false _ _ z)
 
 -- A command's payments, by weight.
 paid-sum : (f : Payment → ℕ) (s : List ℕ) (l : Line) → let c = payment 1 (place s) (l .answer .customer .0) in let m = payment 2 (place s) (l .answer .merchant .0) in
@@ -244,4 +243,6 @@ collected-adds-up b cs ls = record {
 pub closed-split : ClosedSplit
 unfolding called
 closed-split lent o ok cs ls n h c =
-    (collected-adds-up ((opening lent o) .book) cs ls) .each n ∙ (journal-demand lent o ok (Call.run cs ls ∷ []) n h) .splits c
+    let e = (collected-adds-up ((opening lent o) .book) cs ls) .each n in
+    let q = (journal-demand lent o ok (Call.run cs ls ∷ []) n h) .splits c in
+    record { customer = ap (λ (x : Sides). x .customer) e ∙ ap (λ (x : Shares). x .customer) q; merchant = ap (λ (x : Sides). x .merchant + (paid (strings n (history ((opening lent o) .book) cs ls))) .fee) e ∙ ap (λ (x : Shares). x .merchant) q }

@@ -14,7 +14,7 @@ use Rattle.bank.specs.Answers.{collectOf}
 abbrev pub listLent : ℕ → List (List ℕ)
 listLent n = replicate n (7 ∷ 7 ∷ 7 ∷ [])
 
--- A settle of channel n, a clock command, and a line with a refusal and two payments.
+-- A settle of channel n, a clock command, and a line with a refusal, two payments and a fee, which is not collected.
 abbrev pub settleOf : ℕ → List ℕ
 settleOf n = 0x0A ∷ 0x00 ∷ n ∷ []
 
@@ -22,7 +22,7 @@ abbrev pub clockCommand : List ℕ
 clockCommand = 0x01 ∷ replicate 8 0
 
 abbrev pub lineWith : ℕ → ℕ → ℕ → Line
-lineWith refusal customer merchant = record { answer = record { customer = cents customer; merchant = cents merchant; steps = 0; refusal = refusal } }
+lineWith refusal customer merchant = record { answer = record { customer = cents customer; merchant = cents merchant; steps = 0; refusal = refusal; fee = cents 1 } }
 
 pub record Collects : Type 0 where
   -- the customer's first; 01 is passed over with its line; a refused line counts; n is as the command has it; a line too many is not looked at

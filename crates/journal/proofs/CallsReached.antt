@@ -9,9 +9,10 @@ use Rattle.machine.specs.Format.{size}
 use Rattle.machine.specs.Book.{soundChannel, sound, reading}
 use Rattle.machine.specs.Checks.{ask}
 use Rattle.machine.specs.Opening.{fresh, opening, blankBook}
+use Rattle.machine.specs.Fee.{charged}
 use Rattle.machine.specs.Rules.{delayed, keyed, establish, fundCustomer, fundMerchant}
 use Rattle.machine.specs.Machine.{answer, plan, step}
-use Rattle.machine.specs.Ledger.{noAnswer, Standing, strings, sum, opcodes, deposits, paid}
+use Rattle.machine.specs.Ledger.{noAnswer, nothing, Standing, strings, sum, opcodes, deposits, paid}
 use Rattle.machine.proofs.Reached.{opens, establishes, funds}
 use Rattle.journal.specs.declared.lines.Line.{Line}
 use Rattle.journal.specs.Runs.{nextBy, turnedOf, runOf}
@@ -33,9 +34,9 @@ funded = calls (record { book = (opening blankBook opens) .book; history = [] })
 record Reached (t : Standing) : Type 0 where
   commands : opcodes (strings 5 (t .history)) ≡ 4 ∷ 3 ∷ 2 ∷ []
   deposited : deposits (strings 5 (t .history)) ≡ 1000
-  unpaid : ((paid (strings 5 (t .history))) .customer ≡ 0) × ((paid (strings 5 (t .history))) .merchant ≡ 0)
+  unpaid : paid (strings 5 (t .history)) ≡ nothing
   holds : (reading (t .book) 5) .held .0 ≡ 1000
 
 reached : Reached funded
-unfolding funded u16At u32At u64At same size soundChannel sound fresh opening ask delayed keyed establish fundCustomer fundMerchant answer plan step strings sum opcodes nextBy turnedOf runOf divided told called
-reached = record { commands = refl; deposited = refl; unpaid = (refl, refl); holds = omega (arith, (journal-demand blankBook opens refl list 5 (omega arith)) .conserved) }
+unfolding funded u16At u32At u64At same size soundChannel sound fresh opening ask delayed keyed establish fundCustomer fundMerchant answer plan charged step strings sum opcodes nextBy turnedOf runOf divided told called
+reached = record { commands = refl; deposited = refl; unpaid = refl; holds = omega (arith, (journal-demand blankBook opens refl list 5 (omega arith)) .conserved) }

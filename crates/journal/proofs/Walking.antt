@@ -1,7 +1,8 @@
 -- What the walks share: statements, numbers, lines and a part of the commands, as the machine has them. Assumes nothing.
 use mathlib.Core.Path.{_≡_, refl, ap, subst, _∙_}
 use mathlib.Core.Bool.{Bool, true, false, not}
-use Prim.Native.Nat.{ℕ, _+_, _-_, _≤_}
+use Prim.Native.Nat.{ℕ, _+_, _-_, _*_, _^_, _≤_, _<_}
+use native.Mathlib.Omega.{arith}
 use mathlib.Core.List.{[], _∷_, List}
 use lib.Dec.{T as Holds}
 use lib.ListN.{length, take, drop as past}
@@ -54,6 +55,14 @@ is-false false h = refl
 pub is-true : (t : Bool) → Holds (not (not t)) → t ≡ true
 is-true true h = refl
 is-true false h = absurd h
+
+-- The bytes of a line.
+abbrev pub line-size : ℕ
+line-size = mem T.the-row .size
+
+-- The byte place of a line that is there fits a usize.
+pub place-fits : (n m : ℕ) → n < m → m * line-size < 2 ^ 63 → n * line-size < 2 ^ 64
+place-fits n m l g = omega arith
 
 abbrev pub IsUsize : ℕ → Type 0
 IsUsize n = Is usize n (vint w64 n ∷ [])

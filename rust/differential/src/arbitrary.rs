@@ -1,11 +1,14 @@
 //! Books with any values, and openings of any kind, biased to edges.
 use crate::bridge::mark;
-use crate::pair::Opening;
+use crate::pair::{Opening, Pair};
 use crate::rng::Rng;
+use crate::tally::Tally;
 use crate::wallet::{Wallet, LEAVES};
 use finaruvom::raw::{Book, Channel, Leaves, Party, Setup};
 use finaruvom::{Cents, Seconds, Settings};
-use oracle::{digest, DESK_DEFAULT, LARGEST, LONGEST_DELAY, PLAIN_DEFAULT, SHORTEST_DELAY};
+use oracle::{
+    digest, DESK_DEFAULT, HIGHEST_RATE, LARGEST, LONGEST_DELAY, PLAIN_DEFAULT, SHORTEST_DELAY,
+};
 
 const DELAYS: [u32; 9] = [
     0,
@@ -19,13 +22,18 @@ const DELAYS: [u32; 9] = [
     u32::MAX,
 ];
 
-/// Defaults that no delay can be; the low half of some is one in range.
-const WIDE_DEFAULTS: [u64; 5] = [
-    1 << 32,
-    (1 << 32) + 3_600,
-    (1 << 32) + 86_400,
-    1 << 63,
-    u64::MAX,
+/// Fees at the edges of their range; the low half of some is one in range.
+const FEES: [u32; 10] = [
+    0,
+    1,
+    HIGHEST_RATE,
+    HIGHEST_RATE + 1,
+    HIGHEST_RATE + 1,
+    10_000,
+    1 << 16,
+    (1 << 16) + 250,
+    u32::MAX,
+    u32::MAX,
 ];
 
 /// Statuses that are none, but for 5. Some would be one if a part of their bits were dropped.
@@ -63,7 +71,10 @@ pub fn wild_book(rng: &mut Rng, wallet: &Wallet) -> Book {
     Book {
         mark: if rng.one_in(2) { mark() } else { rng.edge() },
         id: rng.array(),
-        setup: wild_setup(rng),
+        setup: Setup {
+            delay: wild_delay(rng),
+            fee: wild_fee(rng),
+        },
         clock: Seconds(clock),
         channels,
     }
@@ -81,7 +92,8 @@ pub fn sound_book(rng: &mut Rng, wallet: &Wallet) -> Book {
         mark: mark(),
         id: [rng.pick(&[0, 0xff]); 16],
         setup: Setup {
-            delay: Seconds(u64::from(default_in_range(rng))),
+            delay: default_in_range(rng),
+            fee: fee_in_range(rng),
         },
         clock: Seconds(clock),
         channels,
@@ -93,10 +105,11 @@ pub fn touched_book(rng: &mut Rng, wallet: &Wallet) -> Book {
     let mut book = sound_book(rng, wallet);
     for _ in 0..1 + rng.below(2) {
         let at = rng.below(64);
-        match rng.below(8) {
+        match rng.below(9) {
             0 => book.mark ^= 1 << rng.below(64),
             1 => book.clock = Seconds(rng.edge()),
-            2 => book.setup = wild_setup(rng),
+            2 => book.setup.delay = wild_delay(rng),
+            3 => book.setup.fee = wild_fee(rng),
             _ => touch(rng, &mut book.channels[at]),
         }
     }
@@ -105,13 +118,25 @@ pub fn touched_book(rng: &mut Rng, wallet: &Wallet) -> Book {
 
 /// An opening: the plain one, or one with settings that are in range or not.
 pub fn opening(rng: &mut Rng) -> Opening {
-    Opening::With(match rng.below(6) {
+    let settings = match rng.below(6) {
         0 => return Opening::Plain,
         1 => Settings::default(),
         2 => Settings::desk(),
         3 => Settings::default().with_delay(default_in_range(rng)),
         _ => Settings::default().with_delay(rng.pick(&DELAYS)),
+    };
+    Opening::With(match rng.below(4) {
+        0 => settings,
+        1 => settings.with_fee(rng.pick(&FEES)),
+        _ => settings.with_fee(fee_in_range(rng)),
     })
+}
+
+/// Both fresh, by an opening of any kind that is accepted.
+pub fn opened(rng: &mut Rng, id: [u8; 16], tally: &mut Tally) -> Result<Pair, String> {
+    let mut pair = Pair::fresh(id)?;
+    while pair.open(&id, &opening(rng), tally)? != 0 {}
+    Ok(pair)
 }
 
 /// A default in its range, at its edges or between.
@@ -126,15 +151,25 @@ fn default_in_range(rng: &mut Rng) -> u32 {
     ])
 }
 
+/// A fee in its range, at its edges or between.
+fn fee_in_range(rng: &mut Rng) -> u32 {
+    let between = rng.below(HIGHEST_RATE as usize) as u32;
+    rng.pick(&[0, 1, 250, between, HIGHEST_RATE - 1, HIGHEST_RATE])
+}
+
 /// A default of any kind.
-fn wild_setup(rng: &mut Rng) -> Setup {
-    let delay = match rng.below(4) {
-        0 => rng.edge(),
-        1 => rng.pick(&WIDE_DEFAULTS),
-        _ => u64::from(rng.pick(&DELAYS)),
-    };
-    Setup {
-        delay: Seconds(delay),
+fn wild_delay(rng: &mut Rng) -> u32 {
+    match rng.below(4) {
+        0 => rng.number() as u32,
+        _ => rng.pick(&DELAYS),
+    }
+}
+
+/// A fee of any kind.
+fn wild_fee(rng: &mut Rng) -> u32 {
+    match rng.below(4) {
+        0 => rng.number() as u32,
+        _ => rng.pick(&FEES),
     }
 }
 

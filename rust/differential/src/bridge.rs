@@ -11,9 +11,6 @@ use std::sync::OnceLock;
 /// paper's.
 const OTHER: u8 = u8::MAX;
 
-/// The oracle's default of a book whose own default the oracle cannot hold. It is out of range.
-const OTHER_DEFAULT: u32 = u32::MAX;
-
 /// The mark that every opening writes.
 pub fn mark() -> u64 {
     static MARK: OnceLock<u64> = OnceLock::new();
@@ -34,7 +31,8 @@ pub fn to_oracle(raw: &raw::Book) -> oracle::Book {
     oracle::Book {
         marked: raw.mark == mark(),
         id: raw.id,
-        default_delay: u32::try_from(raw.setup.delay.0).unwrap_or(OTHER_DEFAULT),
+        default_delay: raw.setup.delay,
+        rate: raw.setup.fee,
         clock: raw.clock.0,
         channels: raw.channels.map(|channel| oracle::Channel {
             status: u8::try_from(channel.status).unwrap_or(OTHER),
@@ -84,8 +82,8 @@ pub fn forgetting(book: &raw::Book) -> raw::Book {
     book
 }
 
-/// The library's book with the same values. A mark, a default or a status that the oracle cannot
-/// hold is the one before: only an opening changes it. So are leaves that are not remembered.
+/// The library's book with the same values. A mark or a status that the oracle cannot hold is the
+/// one before: only an opening changes it. So are leaves that are not remembered.
 pub fn to_raw(book: &oracle::Book, before: &raw::Book) -> raw::Book {
     let party = |party: &oracle::Party| Party {
         key: party.key,
@@ -107,14 +105,13 @@ pub fn to_raw(book: &oracle::Book, before: &raw::Book) -> raw::Book {
             leaves: to_leaves(channel.remembered, &before.channels[n]),
         }
     };
-    let delay = match book.default_delay {
-        OTHER_DEFAULT => before.setup.delay,
-        delay => Seconds(u64::from(delay)),
-    };
     raw::Book {
         mark: if book.marked { mark() } else { before.mark },
         id: book.id,
-        setup: raw::Setup { delay },
+        setup: raw::Setup {
+            delay: book.default_delay,
+            fee: book.rate,
+        },
         clock: Seconds(book.clock),
         channels: std::array::from_fn(channel),
     }
@@ -127,6 +124,7 @@ pub fn to_answer(answer: &oracle::Answer) -> raw::Answer {
         customer: Cents(answer.customer),
         merchant: Cents(answer.merchant),
         steps: answer.steps,
+        fee: Cents(answer.fee),
     }
 }
 
@@ -156,6 +154,7 @@ pub fn to_paid(answer: &oracle::Answer) -> Result<Payments, Refusal> {
     Ok(Payments {
         customer: Cents(answer.customer),
         merchant: Cents(answer.merchant),
+        fee: Cents(answer.fee),
     })
 }
 

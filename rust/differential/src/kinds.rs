@@ -1,14 +1,16 @@
-//! Commands, openings and books that come up by design alone.
+//! Commands and books that come up by design alone.
 
 pub mod bank;
+pub mod fees;
 pub mod leaves;
+pub mod openings;
 pub mod signers;
 
 use crate::wallet::bits_apart;
-use oracle::{digest, Book, PLAIN_DEFAULT, TYPES};
+use oracle::{digest, Book, HIGHEST_RATE, PLAIN_DEFAULT, PLAIN_RATE, TYPES};
 
 /// The kinds that every run must meet.
-pub const KINDS: [&str; 19] = [
+pub const KINDS: [&str; 18] = [
     EQUAL,
     IDENTIFIERS,
     ROOTS,
@@ -24,10 +26,9 @@ pub const KINDS: [&str; 19] = [
     CLOSED,
     DISPUTED,
     SETTLED,
-    ACCEPTED,
-    ID_REFUSED,
-    DEFAULT_REFUSED,
     DEFAULT_UNSOUND,
+    FEE_UNSOUND,
+    LARGEST_FEE_UNSOUND,
 ];
 
 const EQUAL: &str = "02 refused for equal keys";
@@ -50,13 +51,25 @@ const CLOSED: &str = "06 accepted where the customer deposits nothing";
 const DISPUTED: &str = "09 accepted where the customer deposits nothing";
 const SETTLED: &str = "0A accepted where the customer deposits nothing";
 
-/// Openings by their answers.
-pub const ACCEPTED: &str = "openings accepted";
-pub const ID_REFUSED: &str = "openings refused for the id";
-pub const DEFAULT_REFUSED: &str = "openings refused for the default";
+/// Books that would be sound with the plain default, or the plain fee.
+const DEFAULT_UNSOUND: &str = "books unsound by their default alone";
+const FEE_UNSOUND: &str = "books unsound by a fee of 1,001 alone";
+const LARGEST_FEE_UNSOUND: &str = "books unsound by a fee of 2^32 - 1 alone";
 
-/// A book that would be sound with the plain default.
-pub const DEFAULT_UNSOUND: &str = "books unsound by their default alone";
+/// The kind of a book by its soundness.
+pub fn soundness(book: &Book) -> &'static str {
+    let [mut with_default, mut with_fee] = [book.clone(), book.clone()];
+    with_default.default_delay = PLAIN_DEFAULT;
+    with_fee.rate = PLAIN_RATE;
+    match (book.sound(), with_default.sound(), with_fee.sound()) {
+        (true, ..) => "sound books",
+        (_, true, _) => DEFAULT_UNSOUND,
+        (.., true) if book.rate == HIGHEST_RATE + 1 => FEE_UNSOUND,
+        (.., true) if book.rate == u32::MAX => LARGEST_FEE_UNSOUND,
+        (.., true) => "books unsound by another fee alone",
+        _ => "unsound books",
+    }
+}
 
 /// The kind of a command with this answer, if it is one of them.
 pub fn kind(book: &Book, command: &[u8], refusal: u8) -> Option<&'static str> {

@@ -3,7 +3,7 @@
 mod journal;
 
 use crate::bridge::{forgetting, to_answer, to_oracle, to_paid, to_raw};
-use crate::kinds::{kind, leaves, ACCEPTED, DEFAULT_REFUSED, ID_REFUSED};
+use crate::kinds::{fees, kind, leaves, openings};
 use crate::tally::Tally;
 use finaruvom::{raw, Answer, Book, Refusal, Settings};
 
@@ -48,16 +48,14 @@ impl Pair {
             Opening::Plain => (self.library.reopen(id), self.oracle.open(id)),
             Opening::With(settings) => (
                 self.library.reopen_with(id, settings),
-                self.oracle.open_with(id, settings.delay),
+                self.oracle.open_with(id, settings.delay, settings.fee),
             ),
         };
         let library = library.map_or_else(Refusal::number, |()| 0);
-        tally.compared(match oracle {
-            0 => ACCEPTED,
-            2 => ID_REFUSED,
-            _ => DEFAULT_REFUSED,
-        });
-        same("opening", &library, &oracle)?;
+        let (kind, expected) = openings::kind(id, how);
+        tally.compared(kind);
+        openings::edge(how, oracle).for_each(|kind| tally.compared(kind));
+        same(kind, &[library, oracle], &[expected; 2])?;
         match oracle {
             0 => self.agree(&forgetting(&before))?,
             _ => self.agree(&before)?,
@@ -79,6 +77,8 @@ impl Pair {
             tally.compared(kind);
         }
         leaves::kinds(&self.oracle, command, oracle.refusal).for_each(|kind| tally.compared(kind));
+        fees::kinds(&self.oracle, command, &oracle).for_each(|kind| tally.compared(kind));
+        tally.charged(&oracle, self.oracle.rate);
         if let (0, Some(before), Some(after)) =
             (oracle.refusal, before, status(&self.oracle, command))
         {

@@ -4,6 +4,7 @@ mod bank;
 mod books;
 mod boundary;
 mod faults;
+mod fees;
 mod hashes;
 mod journals;
 mod leaves;
@@ -42,6 +43,7 @@ pub struct Part {
 pub const PARTS: &[Part] = &[
     part("journals", journals::case),
     part("accounts", accounts::case),
+    part("fees", fees::case),
     part("leaves", leaves::case),
     part("strings", strings::case),
     part("books", books::case),

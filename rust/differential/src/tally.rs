@@ -1,6 +1,7 @@
 //! What was compared, and which refusals came up.
-use crate::kinds::{bank, leaves, signers, KINDS};
-use std::collections::BTreeMap;
+use crate::kinds::{bank, fees, leaves, openings, signers, KINDS};
+use oracle::{Answer, HIGHEST_RATE};
+use std::collections::{BTreeMap, BTreeSet};
 use std::fmt;
 
 /// The answers that each first byte can get, 00 standing for none and for one that is no command.
@@ -64,6 +65,7 @@ pub struct Tally {
     answers: BTreeMap<(u8, u8), u64>,
     moves: BTreeMap<(u8, u8, u8), u64>,
     meetings: BTreeMap<(u8, u8, u8), u64>,
+    rates: BTreeSet<u32>,
 }
 
 impl Tally {
@@ -93,6 +95,13 @@ impl Tally {
         }
     }
 
+    /// Notes the rate of a book in which a merchant was paid.
+    pub fn charged(&mut self, answer: &Answer, rate: u32) {
+        if answer.merchant > 0 {
+            self.rates.insert(rate);
+        }
+    }
+
     /// What could have come up and never did.
     pub fn missing(&self) -> Vec<String> {
         let answers = REACHABLE
@@ -113,10 +122,15 @@ impl Tally {
             .chain(signers::names())
             .chain(leaves::names())
             .chain(bank::names())
+            .chain(openings::names())
+            .chain(fees::names())
             .filter(|kind| !self.compared.contains_key(kind))
             .map(|kind| kind.to_string());
+        let rates = (0..=HIGHEST_RATE)
+            .filter(|rate| !self.rates.contains(rate))
+            .map(|rate| format!("a merchant paid at a rate of {rate}"));
         let all = answers.chain(moves).chain(meetings).chain(kinds);
-        all.collect()
+        all.chain(rates).collect()
     }
 
     /// Answers by first byte, moves and meetings.

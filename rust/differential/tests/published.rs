@@ -1,6 +1,5 @@
 //! The published journals and signatures through the library alone.
-use finaruvom::raw::Answer;
-use finaruvom::{Book, Cause, Line, Verdict};
+use finaruvom::{raw, Answer, Book, Cause, Line, Verdict};
 use std::collections::HashMap;
 use std::fmt::Write;
 use stored::journals;
@@ -22,18 +21,24 @@ fn commands(journal: &[u8]) -> Vec<&[u8]> {
     commands
 }
 
+/// The line that the statement program prints of an answer; the fee is its last number.
+fn printed(number: u64, answer: Answer) -> String {
+    let raw::Answer {
+        refusal,
+        customer,
+        merchant,
+        steps,
+        fee,
+    } = *answer.as_raw();
+    format!("{number} {refusal} {customer} {merchant} {steps} {fee}")
+}
+
 fn compare(input: &[u8], text: &str) {
     let (id, journal) = input.split_at(16);
     let mut book = Book::open(id).unwrap();
     let mut lines = text.lines();
     for (number, command) in (1..).zip(commands(journal)) {
-        let Answer {
-            refusal,
-            customer,
-            merchant,
-            steps,
-        } = *book.apply(command).as_raw();
-        let line = format!("{number} {refusal} {customer} {merchant} {steps}");
+        let line = printed(number, book.apply(command));
         assert_eq!(Some(line.as_str()), lines.next());
     }
     assert!(lines.next().unwrap().starts_with("end "));
@@ -57,13 +62,7 @@ fn statement(input: &[u8]) -> String {
         used += ran.used;
         for line in &lines[..ran.lines] {
             number += 1;
-            let Answer {
-                refusal,
-                customer,
-                merchant,
-                steps,
-            } = *line.answer.as_raw();
-            writeln!(text, "{number} {refusal} {customer} {merchant} {steps}").unwrap();
+            writeln!(text, "{}", printed(number, line.answer)).unwrap();
         }
         if ran.cause != Cause::NoLine {
             writeln!(text, "end {used} {}", ran.cause.number()).unwrap();

@@ -20,10 +20,12 @@ pub fn to_lines(lines: &[raw::Line]) -> Vec<u8> {
             merchant,
             steps,
             refusal,
+            fee,
         } = line.answer;
-        let [customer, merchant] = [customer.0, merchant.0].map(u64::to_le_bytes);
+        let [customer, merchant, fee] =
+            [customer, merchant, fee].map(|cents| cents.0.to_le_bytes());
         let [steps, refusal] = [steps, refusal].map(u32::to_le_bytes);
-        [&customer[..], &merchant, &steps, &refusal].concat()
+        [&customer[..], &merchant, &steps, &refusal, &fee].concat()
     };
     lines.iter().flat_map(line).collect()
 }
@@ -35,6 +37,7 @@ pub fn from_line(line: &raw::Line) -> oracle::Answer {
         customer: line.answer.customer.0,
         merchant: line.answer.merchant.0,
         steps: line.answer.steps,
+        fee: line.answer.fee.0,
     }
 }
 

@@ -64,6 +64,7 @@ pub const READ_BACK: &str = "lists written and read back";
 pub const WRITTEN_AGAIN: &str = "strings read and written again";
 pub const OF_A_RUN: &str = "payments of runs";
 pub const OF_A_RUN_WRITTEN: &str = "payments of runs written";
+pub const OF_A_RUN_LESS: &str = "payments of runs less their fees";
 
 impl Seen {
     fn needs_none(&self) -> bool {
@@ -106,7 +107,8 @@ impl Seen {
 /// The names of all these kinds.
 pub fn names() -> impl Iterator<Item = &'static str> {
     let rooms = ROOMS.iter().map(|(name, ..)| *name);
-    let following = [READ_BACK, WRITTEN_AGAIN, OF_A_RUN, OF_A_RUN_WRITTEN];
+    let runs = [OF_A_RUN, OF_A_RUN_WRITTEN, OF_A_RUN_LESS];
+    let following = [READ_BACK, WRITTEN_AGAIN].into_iter().chain(runs);
     let calls = rooms.chain(ENDS).chain(following);
     calls.chain(paid::names()).chain(spoilt::names())
 }

@@ -1,6 +1,7 @@
-//! Whole lives of accounts from a fresh book on, with what went in and out of each.
+//! Whole lives of accounts from a fresh book of any fee on, with what went in and out of each.
 use super::World;
-use crate::kinds::credit;
+use crate::arbitrary;
+use crate::kinds::{credit, fees};
 use crate::ledger::Ledger;
 use crate::lives::{lives, Terms};
 use crate::pair::{Outcome, Pair};
@@ -9,8 +10,8 @@ use crate::rng::Rng;
 /// One book, some channels, each used from its 02 to its end.
 pub fn case(rng: &mut Rng, world: &mut World) -> Outcome {
     let id = [rng.pick(&[0, 0xff]); 16];
-    let mut pair = Pair::fresh(id)?;
-    let mut ledger = Ledger::new();
+    let mut pair = arbitrary::opened(rng, id, &mut world.tally)?;
+    let mut ledger = Ledger::new(pair.oracle.rate);
     let lives = lives();
     for n in 0..8 {
         let life = &lives[rng.below(lives.len())];
@@ -30,6 +31,7 @@ fn live(
     (n, terms, life): (u16, &Terms, &[u8]),
     world: &mut World,
 ) -> Outcome {
+    let mut charged = 0;
     for &opcode in life {
         let deadline = pair.oracle.channels[usize::from(n)].deadline;
         let plan = terms.plan(opcode, deadline);
@@ -38,10 +40,14 @@ fn live(
         if answer.refusal != 0 {
             return Err(format!("{opcode:02X} refused with {}", answer.refusal));
         }
+        charged += answer.fee;
         ledger.enter(&command, &answer, &pair.library)?;
         if let Some(kind) = credit(&pair.oracle, &command) {
             world.tally.compared(kind);
         }
+    }
+    if life.ends_with(&[7, 9]) && charged < oracle::fee(terms.total(), pair.oracle.rate) {
+        world.tally.compared(fees::DIVIDED_BY_ITSELF);
     }
     match pair.oracle.channels[usize::from(n)].status {
         6 => Ok(()),

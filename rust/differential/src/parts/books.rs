@@ -2,13 +2,12 @@
 use super::runs::FORMER;
 use super::World;
 use crate::arbitrary;
-use crate::kinds::DEFAULT_UNSOUND;
+use crate::kinds::soundness;
 use crate::maker::Maker;
 use crate::pair::{same, Opening, Outcome, Pair};
 use crate::rng::Rng;
 use crate::wallet::Wallet;
 use finaruvom::raw::Book;
-use oracle::PLAIN_DEFAULT;
 
 /// Many books with one command, run and applied, then some, each with some commands and openings at
 /// last.
@@ -43,15 +42,7 @@ type Make = fn(&mut Rng, &Wallet) -> Book;
 
 fn pair(rng: &mut Rng, world: &mut World, make: Make) -> Pair {
     let pair = Pair::new(make(rng, &world.wallet));
-    let mut mended = pair.oracle.clone();
-    mended.default_delay = PLAIN_DEFAULT;
-    world
-        .tally
-        .compared(match (pair.oracle.sound(), mended.sound()) {
-            (true, _) => "sound books",
-            (false, true) => DEFAULT_UNSOUND,
-            (false, false) => "unsound books",
-        });
+    world.tally.compared(soundness(&pair.oracle));
     pair
 }
 

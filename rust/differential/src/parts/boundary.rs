@@ -153,24 +153,26 @@ fn open_with(rng: &mut Rng, book: &mut Fenced) -> Outcome {
     let mut id = lend(rng, id);
     let settings = raw::Settings {
         delay: rng.pick(&[0, 3_599, 3_600, 172_800, 2_592_000, 2_592_001, u32::MAX]),
+        fee: rng.pick(&[0, 1, 250, 1_000, 1_001, u32::MAX]),
     };
     let before = book.bytes().to_vec();
     let book_at = book.pointer::<raw::Book>();
     // SAFETY: the book is writable and the id readable.
-    let (refusal, delay) = unsafe {
+    let (refusal, raw::Setup { delay, fee }) = unsafe {
         let refusal = raw::finaruvom_open_with(book_at, id.pointer(), id.length(), settings);
-        (refusal, (*book_at).setup.delay.0)
+        (refusal, (*book_at).setup)
     };
     kept("open_with", &[book], &[&id])?;
     stays("open_with", refusal, &before, book)?;
-    let expected = match (id.length(), settings.delay) {
-        (16, 3_600..=2_592_000) => 0,
-        (16, _) => 14,
+    let expected = match (id.length(), settings.delay, settings.fee) {
+        (16, 3_600..=2_592_000, 0..=1_000) => 0,
+        (16, 3_600..=2_592_000, _) => 20,
+        (16, ..) => 14,
         _ => 2,
     };
     same("open_with", &refusal, &expected)?;
     match refusal {
-        0 => same("default", &delay, &u64::from(settings.delay)),
+        0 => same("setup", &(delay, fee), &(settings.delay, settings.fee)),
         _ => Ok(()),
     }
 }
@@ -182,8 +184,9 @@ fn apply(rng: &mut Rng, book: &mut Fenced) -> Outcome {
     let answer =
         unsafe { raw::finaruvom_apply(book.pointer(), command.pointer(), command.length()) };
     kept("apply", &[book], &[&command])?;
-    match answer.refusal {
-        0..=12 | 16 | 99 => Ok(()),
-        other => Err(format!("a refusal of {other}")),
+    let paid = [answer.customer, answer.merchant, answer.fee].map(|cents| cents.0);
+    match (answer.refusal, paid) {
+        (0, _) | (1..=12 | 16 | 99, [0, 0, 0]) => Ok(()),
+        other => Err(format!("a refusal and payments of {other:?}")),
     }
 }

@@ -1,24 +1,23 @@
-//! Lists of commands from a fresh book of any default, made by somebody who knows its state, with
-//! the account of each channel.
+//! Lists of commands from a fresh book of any default and fee, made by somebody who knows its state,
+//! with the account of each channel.
 use super::World;
 use crate::arbitrary;
 use crate::kinds::{credit, kind, FILED};
 use crate::ledger::Ledger;
 use crate::maker::Maker;
-use crate::pair::{Outcome, Pair};
+use crate::pair::Outcome;
 use crate::rng::Rng;
 
 /// One book, some channels, some commands.
 pub fn case(rng: &mut Rng, world: &mut World) -> Outcome {
     let id = [rng.pick(&[0, 0xff]); 16];
-    let mut pair = Pair::fresh(id)?;
-    while pair.open(&id, &arbitrary::opening(rng), &mut world.tally)? != 0 {}
+    let mut pair = arbitrary::opened(rng, id, &mut world.tally)?;
     let (channels, commands) = match rng.below(8) {
         0 => ((0..64).collect(), 400),
         _ => (some_channels(rng), 60),
     };
     let mut maker = Maker::new(rng, &mut world.wallet, channels);
-    let mut ledger = Ledger::new();
+    let mut ledger = Ledger::new(pair.oracle.rate);
     for number in 1..=commands {
         let command = maker.command(&pair.oracle);
         let answer = pair

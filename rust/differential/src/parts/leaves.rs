@@ -2,6 +2,7 @@
 mod scenes;
 
 use super::World;
+use crate::arbitrary;
 use crate::lives::Terms;
 use crate::pair::{Outcome, Pair};
 use crate::plan::Plan;
@@ -38,7 +39,7 @@ impl Stage {
         let first = Terms::new(rng, &world.wallet, id, 0, &[2, 3, 4]);
         let [second, third] = [1, 2].map(|n| first.of_channel(n));
         let mut stage = Stage {
-            pair: Pair::fresh(id)?,
+            pair: arbitrary::opened(rng, id, &mut world.tally)?,
             accounts: [first, second, third.swapped()],
             leaves: leaves(rng),
         };

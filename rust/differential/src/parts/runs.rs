@@ -17,6 +17,7 @@ pub const FORMER: Line = Line {
         customer: Cents(0xa5a5_a5a5_a5a5_a5a5),
         merchant: Cents(0x5a5a_5a5a_5a5a_5a5a),
         steps: 0xa5a5_5a5a,
+        fee: Cents(0xa5a5_5a5a_a5a5_5a5a),
     },
 };
 

@@ -4,7 +4,8 @@ use differential::bridge::{to_answer, to_raw};
 use differential::lives::{lives, Terms};
 use differential::rng::Rng;
 use differential::wallet::Wallet;
-use finaruvom::Book;
+use finaruvom::{Book, Settings};
+use oracle::PLAIN_DEFAULT;
 
 /// Two books that are given the same commands.
 struct Desk<'a> {
@@ -28,16 +29,18 @@ impl Desk<'_> {
     }
 }
 
-/// A life of one channel of a fresh book, at any time.
+/// A life of one channel of a fresh book of any fee, at any time.
 fn live(rng: &mut Rng, wallet: &mut Wallet, life: &[u8]) {
     let n = rng.below(64);
     let id = rng.array();
+    let fee = rng.pick(&[0, 1, 250, 999, 1_000]);
     let terms = Terms::new(rng, wallet, id, n as u16, life);
     let mut desk = Desk {
         wallet,
-        library: Book::open(&id).unwrap(),
+        library: Book::open_with(&id, &Settings::default().with_fee(fee)).unwrap(),
         oracle: oracle::Book::fresh(id),
     };
+    assert_eq!(desk.oracle.open_with(&id, PLAIN_DEFAULT, fee), 0);
     desk.file(&terms, 1, rng.number() % (1 << 62));
     for opcode in life {
         let deadline = desk.oracle.channels[n].deadline;

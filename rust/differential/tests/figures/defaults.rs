@@ -59,7 +59,7 @@ fn given_delays_stay() {
 fn read_once() {
     let mut raw = closing(new_book(), 0).book.as_raw().clone();
     (raw.channels[0].status, raw.channels[0].deadline) = (3, Seconds(0));
-    raw.setup.delay = Seconds(3_600);
+    raw.setup.delay = 3_600;
     let mut desk = Desk {
         book: Book::from_raw(raw),
     };
@@ -76,7 +76,7 @@ fn operands_out_of_range() {
 }
 
 /// The answer to an opening over a used book, which keeps every value where it is refused.
-fn opened(id: &[u8], delay: u32) -> Result<u64, Refusal> {
+fn opened(id: &[u8], delay: u32) -> Result<u32, Refusal> {
     let mut book = closing(new_book(), 0).book;
     let before = book.clone();
     let opened = book.reopen_with(id, &Settings::default().with_delay(delay));
@@ -88,13 +88,13 @@ fn opened(id: &[u8], delay: u32) -> Result<u64, Refusal> {
         ),
         Err(_) => assert_eq!(book, before),
     }
-    opened.map(|()| setup.delay.0)
+    opened.map(|()| setup.delay)
 }
 
 #[test]
 fn openings() {
     for delay in [3_600, 86_400, 172_800, 2_592_000] {
-        assert_eq!(opened(&ID, delay), Ok(u64::from(delay)));
+        assert_eq!(opened(&ID, delay), Ok(delay));
         assert_eq!(opened(&ID[1..], delay), Err(Refusal::Length));
     }
     for delay in [3_599, 2_592_001, 0, u32::MAX] {

@@ -143,6 +143,14 @@ pub fn paid(customer: u64, merchant: u64) -> Answer {
     }
 }
 
+/// What was paid, of which the desk keeps a fee: the merchant's figure is without it.
+pub fn charged(customer: u64, merchant: u64, fee: u64) -> Answer {
+    Answer {
+        fee: Cents(fee),
+        ..paid(customer, merchant)
+    }
+}
+
 pub fn refused(refusal: u32) -> Answer {
     Answer {
         refusal,

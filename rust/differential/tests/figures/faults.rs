@@ -7,11 +7,13 @@ use finaruvom::Seconds;
 type Keys = [[u8; 56]; 2];
 
 /// Ways to make a book unsound that leave channel 0 as it is.
-const UNSOUND: [fn(&mut Book); 9] = [
+const UNSOUND: [fn(&mut Book); 11] = [
     |book| book.mark ^= 1,
-    |book| book.setup.delay = Seconds(3_599),
-    |book| book.setup.delay = Seconds(2_592_001),
-    |book| book.setup.delay = Seconds((1 << 32) + 3_600),
+    |book| book.setup.delay = 3_599,
+    |book| book.setup.delay = 2_592_001,
+    |book| book.setup.delay = u32::MAX,
+    |book| book.setup.fee = 1_001,
+    |book| book.setup.fee = u32::MAX,
     |book| book.clock = Seconds(1 << 63),
     |book| book.channels[63].status = 7,
     |book| book.channels[63].status = 256,

@@ -5,6 +5,7 @@ mod defaults;
 mod desk;
 mod edges;
 mod faults;
+mod fees;
 mod keys;
 mod leaves;
 mod locks;

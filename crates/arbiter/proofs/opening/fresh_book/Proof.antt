@@ -5,7 +5,7 @@ use Rattle.arbiter.proofs.opening.fresh_book.Tie as tie
 
 returns : tie.Need-returns
 unfolding fresh
-returns c = rw (c .before .unused-channel .ensures)
+returns c = rw (c .unused-channel .ensures)
 
 pub fresh-book-spec : {M : Type 1} → statement M
-fresh-book-spec = tie.close (tie.spec (λ c κs. search needs) (λ c. search needs) returns)
+fresh-book-spec = tie.close (tie.spec (λ c κs. search needs) returns)

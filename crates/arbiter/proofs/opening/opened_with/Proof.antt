@@ -13,14 +13,15 @@ use Rattle.arbiter.proofs.opening.opened_with.Statement.{statement}
 use Rattle.arbiter.proofs.opening.opened_with.Tie as tie
 
 -- The checks are made.
-module _ (k : tie.After-tested2) where
+module _ (k : tie.After-tested3) where
   abbrev given : Opening
-  given = under (k .before .before .before .before .before .before .args .settings) (k .before .before .before .before .before .before .args .id .now)
+  given = let a = k .before .before .before .before .before .before .before .before .args in under (a .settings) (a .id .now)
 
-  checked : k .tested2 .result ≡ judge clean (openingChecks given)
+  checked : k .tested3 .result ≡ judge clean (openingChecks given)
   checked =
-      let t = k .before .before .before in
-      k .tested2 .ensures .0 ∙ rw (k .before .delay-fits .ensures, t .tested .ensures .0, t .before .unjudged .ensures .0)
+      let d = k .before .before in
+      let t = d .before .before .before in
+      k .tested3 .ensures .0 ∙ rw (k .before .fee-fits .ensures, d .tested2 .ensures .0, d .before .delay-fits .ensures, t .tested .ensures .0, t .before .unjudged .ensures .0)
 
 part-all : (id : List ℕ) → length id ≡ 16 → part id 0 16 ≡ id
 part-all id h = take-all 16 id (omega arith)
@@ -45,6 +46,8 @@ opened-with-spec =
     (λ c κs. search needs)
     (λ c κs. search needs)
     (λ c. search needs)
+    (λ c κs. search needs)
+    (λ c κs. search needs)
     (λ c κs. search needs)
     (λ c κs. search needs)
     returns

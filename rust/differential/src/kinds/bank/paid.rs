@@ -11,7 +11,7 @@ pub struct Beside {
 
 type Kind = (&'static str, fn(&Beside) -> bool);
 
-const KINDS: [Kind; 15] = [
+const KINDS: [Kind; 18] = [
     ("passed over amounts beside a 01", Beside::passed_over),
     ("collected for nobody", |it| it.pays(false, false)),
     ("collected for the customer alone", |it| {
@@ -21,6 +21,15 @@ const KINDS: [Kind; 15] = [
         it.pays(false, true)
     }),
     ("collected for both", |it| it.pays(true, true)),
+    ("collected beside a fee", |it| {
+        it.pays(false, true) && it.fee() > 0
+    }),
+    ("collected beside a fee, no merchant paid", |it| {
+        it.pays(true, false) && it.fee() > 0
+    }),
+    ("collected nothing of a fee alone", |it| {
+        it.pays(false, false) && it.fee() > 0
+    }),
     ("collected from a refused line", |it| {
         it.collected() && it.line.answer.refusal != 0
     }),
@@ -39,6 +48,10 @@ impl Beside {
     /// What the line shows for customer and merchant.
     fn amounts(&self) -> [u64; 2] {
         [self.line.answer.customer.0, self.line.answer.merchant.0]
+    }
+
+    fn fee(&self) -> u64 {
+        self.line.answer.fee.0
     }
 
     fn passed_over(&self) -> bool {

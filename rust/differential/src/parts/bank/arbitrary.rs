@@ -65,13 +65,14 @@ pub fn amount(rng: &mut Rng) -> u64 {
     }
 }
 
-/// A line with any refusal and amounts.
+/// A line with any refusal, amounts and fee.
 pub fn line(rng: &mut Rng) -> Line {
     let answer = Answer {
         customer: Cents(amount(rng)),
         merchant: Cents(amount(rng)),
         steps: rng.number() as u32,
         refusal: rng.pick(&[0, 0, 1, 5, 12, 16, 99, 256, u32::MAX]),
+        fee: Cents(amount(rng)),
     };
     Line { answer }
 }

@@ -1,8 +1,9 @@
-//! Payments of runs: what is collected of each side and channel is what the answers paid.
+//! Payments of runs: what is collected of each side and channel is what the answers paid, without the
+//! fees.
 use super::answered;
 use super::arbitrary::{room, wild};
-use crate::arbitrary::sound_book;
-use crate::kinds::bank::{OF_A_RUN, OF_A_RUN_WRITTEN};
+use crate::arbitrary::{opened, sound_book};
+use crate::kinds::bank::{OF_A_RUN, OF_A_RUN_LESS, OF_A_RUN_WRITTEN};
 use crate::lives::{lives, Terms};
 use crate::maker::Maker;
 use crate::pair::{same, Outcome, Pair};
@@ -42,6 +43,9 @@ impl Journal {
             let n = u64::from(u16::from_be_bytes([high, low]));
             add(&mut self.paid, 1, n, answer.customer);
             add(&mut self.paid, 2, n, answer.merchant);
+        }
+        if answer.fee > 0 {
+            tally.compared(OF_A_RUN_LESS);
         }
         self.commands.push(command);
         Ok(())
@@ -86,7 +90,7 @@ fn unsigned(rng: &mut Rng, world: &mut World) -> Outcome {
 
 fn whole_lives(rng: &mut Rng, world: &mut World) -> Outcome {
     let id = rng.array();
-    let mut journal = Journal::new(Pair::fresh(id)?);
+    let mut journal = Journal::new(opened(rng, id, &mut world.tally)?);
     let lives = lives();
     for n in [0, 63] {
         let life = &lives[rng.below(lives.len())];
