@@ -5,6 +5,7 @@ use Rattle.machine.specs.Format.{size}
 use Rattle.machine.specs.Book.{soundChannel, sound}
 use Rattle.machine.specs.Opening.{fresh, opening}
 use Rattle.machine.specs.Checks.{ask}
+use Rattle.machine.specs.Fee.{charged}
 use Rattle.machine.specs.Rules.{settle}
 use Rattle.machine.specs.Machine.{answer, plan, step}
 use Rattle.journal.specs.Runs.{nextBy, turnedOf, runOf}
@@ -14,5 +15,5 @@ use Rattle.report.specs.Statement.{noLines, runText, statementOf}
 use Rattle.report.specs.Examples.{Examples}
 
 pub examples : Examples
-unfolding bytes u16At u32At u64At size soundChannel sound fresh opening ask settle answer plan step nextBy turnedOf runOf spelled decimal closer row fields linesFrom endLine noLines runText statementOf
+unfolding bytes u16At u32At u64At size soundChannel sound fresh opening ask settle answer plan charged step nextBy turnedOf runOf spelled decimal closer row fields linesFrom endLine noLines runText statementOf
 examples = record { paper = refl; none = refl; some = refl }

@@ -1,12 +1,12 @@
--- Document 01, "Journal and due list": the lines of a statement.
+-- Document 01, "Journal and due list": the lines of a statement; document 02, No. 7: the fee as the last field of a line.
 use Prim.Native.Nat.{ℕ, suc}
 use mathlib.Core.List.{List, [], _∷_, _++_}
 use Rattle.journal.specs.declared.lines.Line.{Line}
 use Rattle.report.specs.Numbers.{row}
 
--- A line holds its number, refusal, customer's cents, merchant's cents, chain steps.
+-- A line holds its number, refusal, customer's cents, merchant's cents, chain steps, and the fee.
 unfoldable pub fields : ℕ → Line → List ℕ
-fields n l = n ∷ l .answer .refusal ∷ l .answer .customer .0 ∷ l .answer .merchant .0 ∷ l .answer .steps ∷ []
+fields n l = n ∷ l .answer .refusal ∷ l .answer .customer .0 ∷ l .answer .merchant .0 ∷ l .answer .steps ∷ l .answer .fee .0 ∷ []
 
 -- Lines, numbered from n on.
 unfoldable pub linesFrom : ℕ → List Line → List ℕ

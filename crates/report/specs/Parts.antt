@@ -19,9 +19,9 @@ use Rattle.report.specs.Statement.{noLines, openedBy, statementOf}
 
 -- ---- a text in a buffer
 
--- An empty buffer, with room for 64 lines of 105 bytes and an end of 46.
+-- An empty buffer, with room for 64 lines of 126 bytes and an end of 46.
 unfoldable pub noBytes : List ℕ
-noBytes = replicate 6766 0
+noBytes = replicate 8110 0
 
 -- A text at the start of one.
 unfoldable pub stored : List ℕ → Text

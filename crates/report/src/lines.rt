@@ -9,11 +9,11 @@ ghost use Rattle.wire.specs.Parts.{pasted};
 ghost use Rattle.report.specs.Numbers.{row};
 ghost use Rattle.report.specs.Lines.{fields, linesFrom, endLine};
 
-// Number, refusal, paid to the customer, paid to the merchant, chain steps.
+// Number, refusal, paid to the customer, paid to the merchant, chain steps, fee.
 fn put_line(out: &mut [u8], at: usize, number: usize, line: Line) -> usize
-    requires { ⌜ at + 105 ≤ length (now out) ⌝ }
+    requires { ⌜ at + 126 ≤ length (now out) ⌝ }
     ensures { λ r. ⌜ (now (out .exit) ≡ pasted (now (out .entry)) at (row (fields number line)))
-        × (r ≡ at + length (row (fields number line))) × (r ≤ at + 105) ⌝ }
+        × (r ≡ at + length (row (fields number line))) × (r ≤ at + 126) ⌝ }
 {
     let answer = line.answer;
     let numbers = [
@@ -22,15 +22,16 @@ fn put_line(out: &mut [u8], at: usize, number: usize, line: Line) -> usize
         answer.customer.0,
         answer.merchant.0,
         answer.steps as u64,
+        answer.fee.0,
     ];
     put_row(out, at, &numbers)
 }
 
 // The first lines, so many, numbered from a number on; answers the length of their text.
 pub fn put_lines(out: &mut [u8], lines: [Line; 64], count: usize, number: usize) -> usize
-    requires { ⌜ (count ≤ 64) × (number + 64 < 2 ^ 64) × (105 * count ≤ length (now out)) ⌝ }
+    requires { ⌜ (count ≤ 64) × (number + 64 < 2 ^ 64) × (126 * count ≤ length (now out)) ⌝ }
     ensures { λ r. ⌜ (now (out .exit) ≡ pasted (now (out .entry)) 0 (linesFrom number (take count lines)))
-        × (r ≡ length (linesFrom number (take count lines))) × (r ≤ 105 * count) ⌝ }
+        × (r ≡ length (linesFrom number (take count lines))) × (r ≤ 126 * count) ⌝ }
 {
     let mut at: usize = 0;
     let mut i: usize = 0;

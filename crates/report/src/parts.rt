@@ -38,6 +38,7 @@ fn no_lines() -> [Line; 64]
         customer: Cents(0),
         merchant: Cents(0),
         steps: 0,
+        fee: Cents(0),
     };
     let line = Line { answer };
     [line; 64]
@@ -55,7 +56,7 @@ fn begin(book: Book) -> Reached
 
 // A text that is the whole statement.
 fn whole(t: &[u8]) -> Part
-    requires { ⌜ length (now t) ≤ 6766 ⌝ }
+    requires { ⌜ length (now t) ≤ 8110 ⌝ }
     ensures { λ r. ⌜ r ≡ whole (now (t .entry)) ⌝ }
 {
     let text = text_of(t);

@@ -11,19 +11,19 @@ ghost use Rattle.report.specs.Parts.{noBytes, stored, textOf};
 
 // A text at the start of its bytes, which have room for 64 lines and an end.
 pub struct Text {
-    pub bytes: [u8; 6766],
+    pub bytes: [u8; 8110],
     pub size: usize,
 }
 
-fn buffer() -> [u8; 6766]
-    ensures { λ r. ⌜ (r ≡ noBytes) × (6766 ≡ length r) ⌝ }
+fn buffer() -> [u8; 8110]
+    ensures { λ r. ⌜ (r ≡ noBytes) × (8110 ≡ length r) ⌝ }
 {
-    [0; 6766]
+    [0; 8110]
 }
 
 // The text of these bytes.
 pub fn text_of(t: &[u8]) -> Text
-    requires { ⌜ length (now t) ≤ 6766 ⌝ }
+    requires { ⌜ length (now t) ≤ 8110 ⌝ }
     ensures { λ r. ⌜ r ≡ stored (now (t .entry)) ⌝ }
 {
     let mut bytes = buffer();

@@ -1,23 +1,28 @@
 //! Accepted commands by what they pay and by their fee, which every run must meet.
-use oracle::{Answer, Book, HIGHEST_RATE, LARGEST};
+use oracle::{fee, Answer, Book, Command, HIGHEST_RATE, LARGEST};
 
-/// An accepted command: its first byte, the rate of its book, what it paid to the customer and to the
-/// merchant with the fee, and the fee.
+/// An accepted command to a channel: its first byte, the rate of its book, what it paid to the
+/// customer and to the merchant with the fee, the fee, and the channel's total.
 struct Seen {
     opcode: u8,
     rate: u32,
     customer: u64,
     amount: u64,
     fee: u64,
+    total: u64,
 }
 
 type Kind = (&'static str, fn(&Seen) -> bool);
 
-const KINDS: [Kind; 17] = [
+const KINDS: [Kind; 18] = [
     ("06 accepted with a fee", |it| it.charged(0x06)),
     ("07 accepted with a fee", |it| it.charged(0x07)),
     ("09 accepted with a fee", |it| it.charged(0x09)),
     ("0A accepted with a fee", |it| it.charged(0x0a)),
+    (
+        "09 whose fee and its 07's are less than the total's",
+        |it| it.charged(0x09) && it.apart() < fee(it.total, it.rate),
+    ),
     ("05 accepted without a fee at a rate above 0", |it| {
         it.free(0x05)
     }),
@@ -52,11 +57,22 @@ const KINDS: [Kind; 17] = [
     }),
 ];
 
-/// Two fees of one channel, those of a 07 and its 09, that are less than the fee of both amounts
-/// together.
-pub const DIVIDED_BY_ITSELF: &str = "09 whose fee and its 07's are less than that of the total";
-
 impl Seen {
+    /// What is seen of a command with this answer, in the book that it left.
+    fn new(book: &Book, command: &[u8], answer: &Answer) -> Option<Seen> {
+        let n = Command::parse(command).ok()?.channel?;
+        let total = book.channels.get(usize::from(n))?.deposits();
+        let accepted = Seen {
+            opcode: command[0],
+            rate: book.rate,
+            customer: answer.customer,
+            amount: answer.merchant + answer.fee,
+            fee: answer.fee,
+            total: total.try_into().ok()?,
+        };
+        (answer.refusal == 0).then_some(accepted)
+    }
+
     /// A command of this kind with a fee.
     fn charged(&self, opcode: u8) -> bool {
         self.opcode == opcode && self.fee > 0
@@ -67,6 +83,11 @@ impl Seen {
         self.opcode == opcode && self.rate > 0 && self.customer > 0 && self.fee == 0
     }
 
+    /// The fee of a 09 and that of the 07 before it, which paid the rest of the total.
+    fn apart(&self) -> u64 {
+        self.fee + fee(self.total - self.amount, self.rate)
+    }
+
     /// What is left of amount × rate over whole cents, in ten-thousandths.
     fn rest(&self) -> u128 {
         u128::from(self.amount) * u128::from(self.rate) % 10_000
@@ -75,20 +96,12 @@ impl Seen {
 
 /// The names of all these kinds.
 pub fn names() -> impl Iterator<Item = &'static str> {
-    let kinds = KINDS.iter().map(|(name, _)| *name);
-    kinds.chain([DIVIDED_BY_ITSELF])
+    KINDS.iter().map(|(name, _)| *name)
 }
 
-/// The kinds of a command with this answer, in the book that it left.
+/// The kinds of a command with this answer.
 pub fn kinds(book: &Book, command: &[u8], answer: &Answer) -> impl Iterator<Item = &'static str> {
-    let opcode = command.first().filter(|_| answer.refusal == 0);
-    let seen = opcode.map(|opcode| Seen {
-        opcode: *opcode,
-        rate: book.rate,
-        customer: answer.customer,
-        amount: answer.merchant + answer.fee,
-        fee: answer.fee,
-    });
+    let seen = Seen::new(book, command, answer);
     let found = KINDS
         .iter()
         .filter(move |(_, kind)| seen.as_ref().is_some_and(kind));

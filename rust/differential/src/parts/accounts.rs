@@ -1,7 +1,7 @@
 //! Whole lives of accounts from a fresh book of any fee on, with what went in and out of each.
 use super::World;
 use crate::arbitrary;
-use crate::kinds::{credit, fees};
+use crate::kinds::credit;
 use crate::ledger::Ledger;
 use crate::lives::{lives, Terms};
 use crate::pair::{Outcome, Pair};
@@ -31,7 +31,6 @@ fn live(
     (n, terms, life): (u16, &Terms, &[u8]),
     world: &mut World,
 ) -> Outcome {
-    let mut charged = 0;
     for &opcode in life {
         let deadline = pair.oracle.channels[usize::from(n)].deadline;
         let plan = terms.plan(opcode, deadline);
@@ -40,14 +39,10 @@ fn live(
         if answer.refusal != 0 {
             return Err(format!("{opcode:02X} refused with {}", answer.refusal));
         }
-        charged += answer.fee;
         ledger.enter(&command, &answer, &pair.library)?;
         if let Some(kind) = credit(&pair.oracle, &command) {
             world.tally.compared(kind);
         }
-    }
-    if life.ends_with(&[7, 9]) && charged < oracle::fee(terms.total(), pair.oracle.rate) {
-        world.tally.compared(fees::DIVIDED_BY_ITSELF);
     }
     match pair.oracle.channels[usize::from(n)].status {
         6 => Ok(()),

@@ -13,7 +13,7 @@ use Rattle.report.proofs.lines.put_lines.Tie as tie
 
 abbrev Inv-loop : tie.InvT-loop
 Inv-loop out₀ count number lines at₀ i₀ out at i =
-    (i ≤ count) × (at ≤ 105 * i) × (length out ≡ length out₀) × Towards out₀ 0 (linesFrom number (take count lines)) out at (linesFrom (number + i) (drop i (take count lines)))
+    (i ≤ count) × (at ≤ 126 * i) × (length out ≡ length out₀) × Towards out₀ 0 (linesFrom number (take count lines)) out at (linesFrom (number + i) (drop i (take count lines)))
 
 abbrev μ-loop : tie.MeasureT-loop
 μ-loop out₀ count number lines at₀ i₀ out at i = count - i
