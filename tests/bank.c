@@ -219,7 +219,7 @@ static const struct figure {
     {"collecting the customer before the merchant", "collect 0a00010a0001 0,7,5,0,0;0,5,7,0,0 4 -> 0 4 1:1:7;2:1:5;1:1:5;2:1:7"},
     {"collecting no payment of 0", "collect 0a00010a00020a0003 0,0,0,0,0;0,0,7,0,0;0,5,0,0,0 4 -> 0 2 2:2:7;1:3:5"},
     {"collecting 2^64 - 1", "collect 0a0001 0,18446744073709551615,1000000000000000,0,0 2 -> 0 2 1:1:18446744073709551615;2:1:1000000000000000"},
-    {"collecting no fee", "collect 0a00010a00020a0003 0,5,7,0,9;0,0,0,0,9;0,0,1,0,18446744073709551615 6 -> 0 3 1:1:5;2:1:7;2:3:1"},
+    {"collecting no fee", "collect 0a00010a00020a0003 0,5,7,0,9;0,0,0,0,9;0,0,1,0,18446744073709551614 6 -> 0 3 1:1:5;2:1:7;2:3:1"},
     {"collecting up to an unknown byte", "collect 0a00010b0a0002 0,5,0,0,0;0,6,0,0,0;0,7,0,0,0 4 -> 0 1 1:1:5"},
     {"collecting up to a command cut short", "collect 0a00010a00 0,5,0,0,0;0,6,0,0,0 4 -> 0 1 1:1:5"},
     {"collecting into a list one too short", "collect 0a00010a0002 0,5,7,0,0;0,8,0,0,0 2 -> 18 0 -"},

@@ -98,7 +98,7 @@ static void settled(uint64_t amount, uint32_t fee) {
     lend(FINARUVOM_MERCHANT_CLOSING, amount, fee);
     before = book;
     before.channels[N].status = FINARUVOM_CLOSED;
-    must(finaruvom_read(&book, N).held == amount, "a book with a fee in range is not read");
+    must(finaruvom_read(&book, N).held == amount, "a channel in a book with a fee holds another amount");
     struct finaruvom_answer a = finaruvom_apply(&book, settle, sizeof settle);
     must(a.refusal == FINARUVOM_ACCEPTED && a.steps == 0 && a.customer == 0, "a settle with a fee is refused, or pays the customer");
     must(a.fee == fee_of(amount, fee), "a settle has another fee than the whole part of its ten-thousandths");

@@ -159,6 +159,12 @@ uint32_t finaruvom_open_with(struct finaruvom_book *book, const uint8_t *id, siz
 #ifdef ONE_HIGHER
     settings.fee -= settings.fee == FINARUVOM_HIGHEST_FEE + 1;
 #endif
+#ifdef ONE_LOWER
+    settings.fee += settings.fee == FINARUVOM_HIGHEST_FEE;
+#endif
+#ifdef FEE_IS_THE_DESKS
+    settings.delay = settings.delay == FINARUVOM_PLAIN_DELAY && settings.fee != 0 ? FINARUVOM_DESK_DELAY : settings.delay;
+#endif
 #ifdef CUTS_THE_FEE
     settings.fee &= 0xFFFF;
 #endif
@@ -296,15 +302,9 @@ static inline uint64_t other_fee(uint64_t amount, uint32_t fee) {
 #endif
 }
 
-// An apply that is wrong in the fee.
-static inline struct finaruvom_answer another_fee(struct finaruvom_book *book, const uint8_t *command, size_t command_n) {
-    struct filed now = filed(book, command, command_n);
-    uint32_t fee = book->setup.fee;
-    struct finaruvom_answer answer = another_memory(book, command, command_n);
-    uint64_t amount = answer.merchant + answer.fee;
-    answer.fee = other_fee(amount, fee);
-    answer.merchant = amount - answer.fee;
-    (void)now;
+// An answer whose fee is taken from another side, or is another one for a dispute; `amount` is the payment to the merchant, `now` the command.
+static inline struct finaruvom_answer divided(struct finaruvom_answer answer, uint64_t amount, uint32_t fee, struct filed now) {
+    (void)amount, (void)fee, (void)now;
 #ifdef FEE_OF_THE_TOTAL
     if (now.disputes && answer.refusal == FINARUVOM_ACCEPTED) {
         uint64_t total = now.channel->customer.deposit + now.channel->merchant.deposit;
@@ -315,6 +315,15 @@ static inline struct finaruvom_answer another_fee(struct finaruvom_book *book, c
 #ifdef MERCHANT_WHOLE
     answer.merchant = amount;
 #endif
+#ifdef WHOLE_AT_07
+    answer.merchant = now.closes ? amount : answer.merchant;
+#endif
+#ifdef FEE_NOT_TOLD
+    answer.fee = 0;
+#endif
+#ifdef FEE_TO_THE_CUSTOMER
+    answer.customer += answer.fee;
+#endif
 #ifdef FROM_THE_CUSTOMER
     uint64_t share = answer.fee < answer.customer ? answer.fee : 0;
     answer.customer -= share;
@@ -324,12 +333,35 @@ static inline struct finaruvom_answer another_fee(struct finaruvom_book *book, c
     answer.fee += fee_of(answer.customer, fee);
     answer.customer -= fee_of(answer.customer, fee);
 #endif
+    return answer;
+}
+
+// An apply that is wrong in the fee.
+static inline struct finaruvom_answer another_fee(struct finaruvom_book *book, const uint8_t *command, size_t command_n) {
+    struct filed now = filed(book, command, command_n);
+    uint32_t fee = book->setup.fee;
+    struct finaruvom_answer answer = another_memory(book, command, command_n);
+    uint64_t amount = answer.merchant + answer.fee;
+    answer.fee = other_fee(amount, fee);
+    answer.merchant = amount - answer.fee;
+    answer = divided(answer, amount, fee, now);
 #ifdef FEE_WHERE_REFUSED
     answer.fee += fee != 0 && answer.refusal == FINARUVOM_STATUS;
 #endif
-#ifdef A_CENT_ANYWAY
-    if (fee == 0 && answer.merchant != 0)
+#ifdef A_CENT_AT_07
+    if (fee == 0 && now.closes && answer.merchant != 0)
         answer.merchant--, answer.fee++;
+#endif
+#ifdef FEE_FROM_THE_KEPT
+    if (now.closes && answer.refusal == FINARUVOM_ACCEPTED)
+        now.channel->kept -= fee_of(now.channel->kept, fee);
+#endif
+#ifdef KEEPS_THE_FEE
+    if (command_n == 3 && answer.refusal == FINARUVOM_ACCEPTED)
+        book->channels[command[2]].kept = answer.fee;
+#endif
+#ifdef MENDS_THE_FEE
+    *book = mended(book);
 #endif
     return answer;
 }
@@ -343,9 +375,14 @@ struct finaruvom_answer finaruvom_apply(struct finaruvom_book *book, const uint8
     volatile uint8_t room[2 * sizeof *book];
     (void)room;
 #endif
+#if defined ANY_LAYOUT || defined LATER_LAYOUT
+    uint64_t mark = book->mark, ours = 0x6172626974657200 + FINARUVOM_LAYOUT;
+#endif
 #ifdef ANY_LAYOUT
-    uint64_t mark = book->mark;
-    book->mark = 0x6172626974657200 + FINARUVOM_LAYOUT;
+    book->mark = ours;
+#endif
+#ifdef LATER_LAYOUT
+    book->mark = mark > ours ? ours : mark;
 #endif
 #ifdef ANOTHER_DEFAULT
     uint32_t delay = book->setup.delay;
@@ -359,7 +396,7 @@ struct finaruvom_answer finaruvom_apply(struct finaruvom_book *book, const uint8
 #ifdef ANY_FEE
     book->setup.fee = fee;
 #endif
-#ifdef ANY_LAYOUT
+#if defined ANY_LAYOUT || defined LATER_LAYOUT
     book->mark = mark;
 #endif
 #ifdef ANOTHER_DEFAULT
@@ -399,6 +436,9 @@ struct finaruvom_reading finaruvom_read(const struct finaruvom_book *book, size_
 #ifdef HELD_IS_TOTAL
     reading.held = reading.total;
 #endif
+#ifdef HELD_WITHOUT_FEE
+    reading.held -= reading.held / 10000 * book->setup.fee;
+#endif
     return reading;
 }
 #endif
@@ -437,6 +477,9 @@ struct finaruvom_ran finaruvom_run(struct finaruvom_book *book, const uint8_t *c
 #ifdef NO_FEE
     for (size_t i = 0; i < ran.lines; i++)
         lines[i].answer.fee = 0;
+#endif
+#ifdef FORGETS_THE_FEE
+    book->setup.fee = book->setup.fee > FINARUVOM_HIGHEST_FEE ? book->setup.fee : 0;
 #endif
 #ifdef CLEARS_LATER
     memset(lines + ran.lines, 0, (lines_n - ran.lines) * sizeof *lines);

@@ -57,7 +57,21 @@ fn changed(channel: Channel, field: u8, value: u64) -> Channel {
     after
 }
 
-// The field, the channel and the value, in ten bytes; 0 is the mark, 1 the clock and 8 the default delay.
+// What the book keeps of its opening; 8 is the default delay and 11 the fee. What does not fit is left out.
+fn kept(setup: Setup, field: u8, value: u64) -> Setup {
+    let mut after = setup;
+    if value < 4294967296 {
+        if field == 8 {
+            after.delay = value as u32;
+        }
+        if field == 11 {
+            after.fee = value as u32;
+        }
+    }
+    after
+}
+
+// The field, the channel and the value, in ten bytes; 0 is the mark and 1 the clock.
 pub fn overwritten(book: Book, bytes: &[u8]) -> Book {
     if bytes.len() != 10 {
         return book;
@@ -75,11 +89,8 @@ pub fn overwritten(book: Book, bytes: &[u8]) -> Book {
         after.clock = clock;
         return after;
     }
-    if field == 8 {
-        let setup = Setup { delay: value };
-        after.setup = setup;
-        return after;
-    }
+    let setup = kept(after.setup, field, value);
+    after.setup = setup;
     if n < 64 {
         let ch = after.channels[n];
         let ch = changed(ch, field, value);

@@ -22,13 +22,14 @@ pub fn print_opened(refusal: u32) {
     text(b"\n");
 }
 
-// Refusal, paid to the customer, paid to the merchant, chain steps.
+// Refusal, paid to the customer, paid to the merchant, chain steps, fee.
 pub fn print_answer(answer: Answer) {
     text(b"answer");
     number(answer.refusal as u64);
     number(answer.customer.0);
     number(answer.merchant.0);
     number(answer.steps as u64);
+    number(answer.fee.0);
     text(b"\n");
 }
 

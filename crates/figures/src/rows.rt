@@ -18,15 +18,16 @@ fn open_row(book: Book, bytes: &[u8]) -> Book {
     opened.book
 }
 
-// An opening with settings: four bytes of default delay, then the id.
+// An opening with settings: four bytes of default delay, four of fee, then the id.
 fn open_with_row(book: Book, bytes: &[u8]) -> Book {
-    if bytes.len() < 4 {
+    if bytes.len() < 8 {
         return book;
     }
     let settings = Settings {
         delay: u32_at(bytes, 0),
+        fee: u32_at(bytes, 4),
     };
-    let opened = arbiter::opened_with(book, &bytes[4..], settings);
+    let opened = arbiter::opened_with(book, &bytes[8..], settings);
     print_opened(opened.refusal);
     opened.book
 }

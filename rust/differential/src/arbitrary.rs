@@ -118,18 +118,16 @@ pub fn touched_book(rng: &mut Rng, wallet: &Wallet) -> Book {
 
 /// An opening: the plain one, or one with settings that are in range or not.
 pub fn opening(rng: &mut Rng) -> Opening {
-    let settings = match rng.below(6) {
+    let (delay, fee) = match rng.below(12) {
         0 => return Opening::Plain,
-        1 => Settings::default(),
-        2 => Settings::desk(),
-        3 => Settings::default().with_delay(default_in_range(rng)),
-        _ => Settings::default().with_delay(rng.pick(&DELAYS)),
+        1 => return Opening::With(Settings::default()),
+        2 => return Opening::With(Settings::desk()),
+        3..=6 => (default_in_range(rng), fee_in_range(rng)),
+        7 => (default_in_range(rng), rng.pick(&FEES)),
+        8 => (rng.pick(&DELAYS), fee_in_range(rng)),
+        _ => (rng.pick(&DELAYS), rng.pick(&FEES)),
     };
-    Opening::With(match rng.below(4) {
-        0 => settings,
-        1 => settings.with_fee(rng.pick(&FEES)),
-        _ => settings.with_fee(fee_in_range(rng)),
-    })
+    Opening::With(Settings::default().with_delay(delay).with_fee(fee))
 }
 
 /// Both fresh, by an opening of any kind that is accepted.
