@@ -103,18 +103,19 @@ static int timed_journal(void) {
     return 1;
 }
 
+static const struct row rows[] = {
+    {"01 clock", {1, 0, 0, 0, 0, 0, 0, 3, 232}, 9, 0, 3},
+    {"02 establish", {2, 0, 5, 0, 0, 0, 6, 0, 0, 0, 4, [59] = 0, 0, 0, 6, 0, 0, 0, 4, 1, [121] = 3, 132, [130] = 100}, 135, 0, 0},
+    {"03 fund customer", {3, 0, 5, 0, 0, 0, 0, 0, 0, 3, 132}, 11, 0, 1},
+    {"04 fund merchant", {4, 0, 5, 0, 0, 0, 0, 0, 0, 0, 100}, 11, 0, 2},
+    {"0A settle", {10, 0, 5}, 3, 0, 5},
+    {"0A settle with a fee", {10, 0, 5}, 3, 0, 4},
+    {"refused with 1", {0}, 0, 1, 3},
+    {"refused with 5", {10, 0, 5}, 3, 5, 3},
+    {"refused with 8", {3, 0, 5, 0, 0, 0, 0, 0, 0, 3, 131}, 11, 8, 1},
+};
+
 int main(void) {
-    static const struct row rows[] = {
-        {"01 clock", {1, 0, 0, 0, 0, 0, 0, 3, 232}, 9, 0, 3},
-        {"02 establish", {2, 0, 5, 0, 0, 0, 6, 0, 0, 0, 4, [59] = 0, 0, 0, 6, 0, 0, 0, 4, 1, [121] = 3, 132, [130] = 100}, 135, 0, 0},
-        {"03 fund customer", {3, 0, 5, 0, 0, 0, 0, 0, 0, 3, 132}, 11, 0, 1},
-        {"04 fund merchant", {4, 0, 5, 0, 0, 0, 0, 0, 0, 0, 100}, 11, 0, 2},
-        {"0A settle", {10, 0, 5}, 3, 0, 5},
-        {"0A settle with a fee", {10, 0, 5}, 3, 0, 4},
-        {"refused with 1", {0}, 0, 1, 3},
-        {"refused with 5", {10, 0, 5}, 3, 5, 3},
-        {"refused with 8", {3, 0, 5, 0, 0, 0, 0, 0, 0, 3, 131}, 11, 8, 1},
-    };
     static struct finaruvom_book books[4], plain[4];
     printf("%-20s %10s %10s %8s %8s %14s\n", "command", "C, ns", "library", "ratio", "copies", "bytes copied");
     for (size_t i = 0; i < sizeof rows / sizeof rows[0]; i++) {

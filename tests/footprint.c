@@ -8,7 +8,8 @@
 #include <string.h>
 #include <ucontext.h>
 
-enum { N = 5, CLOCK = 1000, FEE = 250, STACK = 1 << 19, PAINT = 0xA5, MUTUAL = 5, MAKING_COPIES = 1, SIGNING_COPIES = 3, SETTLES = 1024, PAYMENTS = 2 * SETTLES };
+enum { N = 5, CLOCK = 1000, FEE = 250, STACK = 1 << 19, PAINT = 0xA5, MUTUAL = 5, MAKING_COPIES = 1, SIGNING_COPIES = 3 };
+enum { SETTLES = 1024, PAYMENTS = 2 * SETTLES };
 
 // What a call is lent, how often it copies that at most, and how many bytes it copies in all; a key making copies some 780 for each leaf.
 struct lent {

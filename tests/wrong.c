@@ -149,7 +149,8 @@ struct finaruvom_settings finaruvom_desk_settings(void) {
 #ifdef OPEN_WITH
 uint32_t right(struct finaruvom_book *book, const uint8_t *id, size_t id_n, struct finaruvom_settings settings);
 
-uint32_t finaruvom_open_with(struct finaruvom_book *book, const uint8_t *id, size_t id_n, struct finaruvom_settings settings) {
+// What is made of the settings before they are looked at.
+static inline struct finaruvom_settings other_settings(struct finaruvom_settings settings) {
 #ifdef IGNORES_SETTINGS
     settings.delay = FINARUVOM_PLAIN_DELAY;
 #endif
@@ -168,6 +169,15 @@ uint32_t finaruvom_open_with(struct finaruvom_book *book, const uint8_t *id, siz
 #ifdef CUTS_THE_FEE
     settings.fee &= 0xFFFF;
 #endif
+#ifdef ZERO_IS_PLAIN
+    if (settings.delay == 0)
+        settings.delay = FINARUVOM_PLAIN_DELAY;
+#endif
+    return settings;
+}
+
+uint32_t finaruvom_open_with(struct finaruvom_book *book, const uint8_t *id, size_t id_n, struct finaruvom_settings settings) {
+    settings = other_settings(settings);
 #ifdef FEE_BEFORE_ID
     if (settings.delay >= FINARUVOM_SHORTEST_DELAY && settings.delay <= FINARUVOM_LONGEST_DELAY && settings.fee > FINARUVOM_HIGHEST_FEE)
         return FINARUVOM_SETTINGS_FEE;
@@ -179,10 +189,6 @@ uint32_t finaruvom_open_with(struct finaruvom_book *book, const uint8_t *id, siz
 #ifdef DEFAULT_FIRST
     if (settings.delay < FINARUVOM_SHORTEST_DELAY)
         return FINARUVOM_SETTINGS_DELAY;
-#endif
-#ifdef ZERO_IS_PLAIN
-    if (settings.delay == 0)
-        settings.delay = FINARUVOM_PLAIN_DELAY;
 #endif
     uint32_t refusal = right(book, id, id_n, settings);
 #ifdef STORES_ANYWAY
@@ -360,10 +366,28 @@ static inline struct finaruvom_answer another_fee(struct finaruvom_book *book, c
     if (command_n == 3 && answer.refusal == FINARUVOM_ACCEPTED)
         book->channels[command[2]].kept = answer.fee;
 #endif
-#ifdef MENDS_THE_FEE
-    *book = mended(book);
+#ifdef WRITES_UNSOUND
+    book->channels[63].leaves.second += answer.refusal == FINARUVOM_UNSOUND;
 #endif
     return answer;
+}
+
+// What is made of a book before it is looked at.
+static inline void take(struct finaruvom_book *book) {
+    uint64_t ours = 0x6172626974657200 + FINARUVOM_LAYOUT;
+    (void)book, (void)ours;
+#ifdef ANY_LAYOUT
+    book->mark = ours;
+#endif
+#ifdef LATER_LAYOUT
+    book->mark = book->mark > ours ? ours : book->mark;
+#endif
+#ifdef ANOTHER_DEFAULT
+    book->setup.delay = ANOTHER_DEFAULT(book->setup.delay);
+#endif
+#ifdef ANY_FEE
+    *book = mended(book);
+#endif
 }
 
 struct finaruvom_answer finaruvom_apply(struct finaruvom_book *book, const uint8_t *command, size_t command_n) {
@@ -375,33 +399,12 @@ struct finaruvom_answer finaruvom_apply(struct finaruvom_book *book, const uint8
     volatile uint8_t room[2 * sizeof *book];
     (void)room;
 #endif
-#if defined ANY_LAYOUT || defined LATER_LAYOUT
-    uint64_t mark = book->mark, ours = 0x6172626974657200 + FINARUVOM_LAYOUT;
-#endif
-#ifdef ANY_LAYOUT
-    book->mark = ours;
-#endif
-#ifdef LATER_LAYOUT
-    book->mark = mark > ours ? ours : mark;
-#endif
-#ifdef ANOTHER_DEFAULT
-    uint32_t delay = book->setup.delay;
-    book->setup.delay = ANOTHER_DEFAULT(delay);
-#endif
-#ifdef ANY_FEE
-    uint32_t fee = book->setup.fee;
-    *book = mended(book);
-#endif
+    uint64_t mark = book->mark;
+    struct finaruvom_setup setup = book->setup;
+    take(book);
     struct finaruvom_answer answer = another_fee(book, command, command_n);
-#ifdef ANY_FEE
-    book->setup.fee = fee;
-#endif
-#if defined ANY_LAYOUT || defined LATER_LAYOUT
     book->mark = mark;
-#endif
-#ifdef ANOTHER_DEFAULT
-    book->setup.delay = delay;
-#endif
+    book->setup = setup;
 #ifdef SWAPS
     swap(&answer);
 #endif

@@ -153,20 +153,25 @@ static void call_open(struct finaruvom_book *book) {
     give_back(id);
 }
 
-// A default in range, at its edges, or any.
+// A default and a fee in range, at their edges, or any.
 static void call_open_with(struct finaruvom_book *book) {
-    static const uint32_t delays[] = {0, 3599, 3600, 172800, 2592000, 2592001, UINT32_MAX};
+    static const uint32_t delays[] = {0, 3599, 3600, 172800, 2592000, 2592001, UINT32_MAX}, fees[] = {0, 1, 250, 999, 1000, 1001, UINT32_MAX};
     struct buffer id = lend(below(4) == 0 ? below(40) : FINARUVOM_ID_SIZE);
     struct finaruvom_settings settings = below(2) == 0 ? finaruvom_plain_settings() : finaruvom_desk_settings();
     if (below(2) == 0) {
         settings.delay = below(4) == 0 ? (uint32_t)number() : delays[below(7)];
     }
+    if (below(4) != 0) {
+        settings.fee = below(8) == 0 ? (uint32_t)number() : fees[below(7)];
+    }
     seal(&id);
     struct finaruvom_book before = *book;
     uint32_t refusal = finaruvom_open_with(book, id.bytes, id.n, settings);
     bool fits = settings.delay >= FINARUVOM_SHORTEST_DELAY && settings.delay <= FINARUVOM_LONGEST_DELAY;
-    require(refusal == (id.n != FINARUVOM_ID_SIZE ? FINARUVOM_LENGTH : fits ? FINARUVOM_ACCEPTED : FINARUVOM_SETTINGS_DELAY), "open_with: refusal");
+    uint32_t wrong = !fits ? FINARUVOM_SETTINGS_DELAY : settings.fee > FINARUVOM_HIGHEST_FEE ? FINARUVOM_SETTINGS_FEE : FINARUVOM_ACCEPTED;
+    require(refusal == (id.n != FINARUVOM_ID_SIZE ? FINARUVOM_LENGTH : wrong), "open_with: refusal");
     require(refusal != FINARUVOM_ACCEPTED || book->setup.delay == settings.delay, "open_with: default");
+    require(refusal != FINARUVOM_ACCEPTED || book->setup.fee == settings.fee, "open_with: fee");
     require(refusal == FINARUVOM_ACCEPTED || memcmp(&before, book, sizeof before) == 0, "open_with: refused, and the book changed");
     give_back(id);
 }
@@ -176,7 +181,9 @@ static void call_apply(struct finaruvom_book *book) {
     seal(&string);
     struct finaruvom_answer answer = finaruvom_apply(book, string.bytes, string.n);
     require(answer.refusal <= FINARUVOM_CUSTOMER || answer.refusal == FINARUVOM_SPENT_LEAF || answer.refusal == FINARUVOM_UNSOUND, "apply: refusal");
-    require(answer.refusal == FINARUVOM_ACCEPTED || (answer.customer == 0 && answer.merchant == 0), "apply: paid");
+    require(answer.refusal == FINARUVOM_ACCEPTED || (answer.customer == 0 && answer.merchant == 0 && answer.fee == 0), "apply: paid");
+    unsigned __int128 amount = (unsigned __int128)answer.merchant + answer.fee;
+    require(answer.fee == amount * book->setup.fee / 10000, "apply: fee");
     give_back(string);
 }
 
@@ -273,7 +280,7 @@ static void call_collect(void) {
     struct buffer string = commands(), lines = lend(below(8) * sizeof(struct finaruvom_line));
     struct buffer list = lend(below(9) * sizeof(struct finaruvom_payment));
     for (size_t i = 0; i < lines.n; i += 8) {
-        memset(lines.bytes + i, 0, 8 * below(2)); // an amount, or steps and refusal
+        memset(lines.bytes + i, 0, 8 * below(2)); // an amount, the fee, or steps and refusal
     }
     remember(&list);
     seal(&string);
@@ -348,7 +355,16 @@ static void call_read_payments(void) {
     give_back(list);
 }
 
-// Some calls on one book, which is opened, or random bytes, or opened and then changed in one place.
+// Every channel of a fresh book as one that its merchant closed, with any deposit: settling it pays him.
+static void close_all(struct finaruvom_book *book) {
+    for (size_t n = 0; n < FINARUVOM_CHANNELS; n++) {
+        book->channels[n].status = FINARUVOM_MERCHANT_CLOSING;
+        book->channels[n].delay = FINARUVOM_SHORTEST_DELAY;
+        book->channels[n].merchant.deposit = number() >> (1 + below(63));
+    }
+}
+
+// Some calls on one book, which is opened, or random bytes, or opened and then changed in one place or in every channel.
 static void one_round(void) {
     struct buffer lent = lend(sizeof(struct finaruvom_book));
     struct finaruvom_book *book = (struct finaruvom_book *)lent.bytes;
@@ -357,6 +373,9 @@ static void one_round(void) {
         call_open_with(book);
     } else if (opening != 0) {
         call_open(book);
+    }
+    if (opening != 0 && below(4) == 0) {
+        close_all(book);
     }
     if (below(8) == 0) {
         lent.bytes[below(lent.n)] = (uint8_t)number();

@@ -53,10 +53,7 @@ pub fn blank() -> Book
     Book {
         mark: 0,
         id: [0u8; 16],
-        setup: Setup {
-            delay: 0,
-            fee: 0,
-        },
+        setup: Setup { delay: 0, fee: 0 },
         clock: Seconds(0),
         channels,
     }

@@ -4,7 +4,7 @@ use differential::bridge::to_oracle;
 use differential::plan::{Hand, Plan};
 use differential::wallet::Wallet;
 use finaruvom::raw::{Channel, Leaves, Party};
-use finaruvom::{Book, Cents, Seconds};
+use finaruvom::{Book, Cents, Seconds, Settings};
 use oracle::digest;
 
 const ID: [u8; 16] = [9; 16];
@@ -51,7 +51,7 @@ fn time(name: &str, book: &Book, command: &[u8]) {
     row(name, library, oracle);
 }
 
-/// A book whose channels are closing, but for the one named.
+/// A book with a fee whose channels are closing, but for the one named.
 pub fn book(wallet: &Wallet, status: u32, deadline: u64) -> Book {
     let party = |party, deposit| Party {
         key: wallet.key(party),
@@ -70,7 +70,7 @@ pub fn book(wallet: &Wallet, status: u32, deadline: u64) -> Book {
             second: 9,
         },
     };
-    let opened = Book::open(&ID).expect("16 bytes are an id");
+    let opened = Book::open_with(&ID, &Settings::default().with_fee(250)).expect("an opening");
     let mut raw = opened.as_raw().clone();
     raw.clock = Seconds(CLOCK);
     raw.channels = [closing; 64];
