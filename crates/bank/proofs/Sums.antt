@@ -17,7 +17,7 @@ use Rattle.machine.specs.Rules.{pay}
 use Rattle.machine.specs.Rules.{Payment as Pays}
 use Rattle.machine.specs.Machine.{answer, order}
 use Rattle.machine.specs.Real.{lmsVerdict, realStep}
-use Rattle.machine.specs.Ledger.{Entry, Event, Shares, accepted, ofChannel, sum, paid, strings, clock}
+use Rattle.ledger.specs.Ledger.{Entry, Event, Shares, accepted, ofChannel, sum, paid, strings, clock}
 use Rattle.machine.specs.declared.units.Cents.{Cents}
 use Rattle.machine.specs.declared.state.Book.{Book}
 use Rattle.machine.specs.declared.answers.Answer.{Answer}

@@ -6,7 +6,7 @@ use mathlib.Core.List.{List, []}
 use lib.Dec.{eqb}
 use lib.ListN.{length}
 use Rattle.machine.specs.Opening.{Opening, opening}
-use Rattle.machine.specs.Ledger.{Entry, Event, Paid, sum, paid, strings, closed, split}
+use Rattle.ledger.specs.Ledger.{Entry, Event, Paid, sum, paid, strings, closed, split}
 use Rattle.machine.specs.declared.state.Book.{Book}
 use Rattle.payments.specs.declared.lists.Payment.{Payment}
 use Rattle.journal.specs.Runs.{runOf}

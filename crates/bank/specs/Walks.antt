@@ -5,7 +5,7 @@ use mathlib.Core.List.{List, map}
 use lib.Dec.{leb}
 use lib.ListN.{length, drop}
 use Rattle.wire.specs.Parts.{part, pasted}
-use Rattle.machine.specs.Ledger.{noAnswer}
+use Rattle.machine.specs.Machine.{noAnswer}
 use Rattle.payments.specs.Payments.{listed}
 use Rattle.payments.specs.Answers.{accepted, refused}
 use Rattle.payments.specs.declared.lists.Counted.{Counted}

@@ -10,7 +10,7 @@ use lib.Dec.{eqb, leb, ltb}
 use borrow.Author.Tests.{eq-eqb, ne-eqb, eqb-true, eqb-false, leb-true, lt-ltb, le-ltb}
 use Rattle.machine.specs.Format.{opcode, size, time, place}
 use Rattle.machine.specs.Book.{cents, seconds, sound, channel, withChannel, withClock, noChannel}
-use Rattle.machine.specs.Checks.{Check, Verdict, test, clean, passed, ask, judge}
+use Rattle.machine.specs.Checks.{Verdict, test, clean, passed, ask, judge}
 use Rattle.machine.specs.Fee.{charged}
 use Rattle.machine.specs.Rules.{Plan}
 use Rattle.machine.specs.Machine.{answer, concluded, ruling, formed, shared, Order, carried, setClock, onChannel, planned, order, step}

@@ -6,9 +6,9 @@ use lib.ListN.{length, drop}
 use Rattle.sha256.specs.Digest.{sha256}
 use Rattle.machine.specs.Real.{lmsVerdict}
 use Rattle.machine.specs.Opening.{opening}
-use Rattle.machine.specs.Ledger.{strings, Standing, recorded, after, Accounted}
+use Rattle.ledger.specs.Ledger.{strings, Standing, recorded, after, Accounted}
 use Rattle.machine.specs.Machine.{step}
-use Rattle.machine.proofs.ThirdDemand.{third-demand-met}
+use Rattle.ledger.proofs.ThirdDemand.{third-demand-met}
 use Rattle.journal.specs.declared.lines.Line.{Line}
 use Rattle.journal.specs.Runs.{runOf}
 use Rattle.journal.specs.Divided.{divided}

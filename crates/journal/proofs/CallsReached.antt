@@ -1,7 +1,7 @@
 -- Two journals and a string between them, by computing, so that the demand of calls speaks of books that are reached.
 use mathlib.Core.Path.{_≡_, refl}
 use mathlib.Core.List.{List, [], _∷_, _++_}
-use Prim.Native.Nat.{ℕ}
+
 use native.Mathlib.Omega.{arith}
 use Rattle.wire.specs.Numbers.{u16At, u32At, u64At}
 use Rattle.wire.specs.Parts.{same}
@@ -11,9 +11,9 @@ use Rattle.machine.specs.Checks.{ask}
 use Rattle.machine.specs.Opening.{fresh, opening, blankBook}
 use Rattle.machine.specs.Fee.{charged}
 use Rattle.machine.specs.Rules.{delayed, keyed, establish, fundCustomer, fundMerchant}
-use Rattle.machine.specs.Machine.{answer, plan, step}
-use Rattle.machine.specs.Ledger.{noAnswer, nothing, Standing, strings, sum, opcodes, deposits, paid}
-use Rattle.machine.proofs.Reached.{opens, establishes, funds}
+use Rattle.machine.specs.Machine.{noAnswer, answer, plan, step}
+use Rattle.ledger.specs.Ledger.{nothing, Standing, strings, sum, opcodes, deposits, paid}
+use Rattle.ledger.proofs.Reached.{opens, establishes, funds}
 use Rattle.journal.specs.declared.lines.Line.{Line}
 use Rattle.journal.specs.Runs.{nextBy, turnedOf, runOf}
 use Rattle.journal.specs.Divided.{divided, told}

@@ -5,7 +5,7 @@ use mathlib.Core.Path.{_≡_, refl, sym, ap, _∙_}
 use mathlib.Core.List.{List, [], _∷_, _++_, flatten}
 use lib.ListN.{length, drop}
 use lib.Seq.{take-add, drop-drop}
-use Rattle.machine.specs.Ledger.{Entry, after}
+use Rattle.ledger.specs.Ledger.{Entry, after}
 use Rattle.machine.specs.declared.state.Book.{Book}
 use Rattle.journal.specs.declared.lines.Line.{Line}
 use Rattle.journal.specs.Runs.{turnedOf, runOf}

@@ -6,7 +6,7 @@ use lib.ListN.{length, drop}
 use Rattle.sha256.specs.Digest.{sha256}
 use Rattle.machine.specs.Opening.{Opening, opening}
 use Rattle.machine.specs.Real.{lmsVerdict, realStep}
-use Rattle.machine.specs.Ledger.{strings, Standing, recorded, after, Accounted}
+use Rattle.ledger.specs.Ledger.{strings, Standing, recorded, after, Accounted}
 use Rattle.machine.specs.declared.state.Book.{Book}
 use Rattle.journal.specs.declared.lines.Line.{Line}
 use Rattle.journal.specs.Runs.{runOf}

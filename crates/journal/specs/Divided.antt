@@ -6,7 +6,7 @@ use mathlib.Core.List.{List, [], _∷_, flatten}
 use lib.ListN.{length, take, drop}
 use Rattle.sha256.specs.Digest.{sha256}
 use Rattle.machine.specs.Real.{lmsVerdict}
-use Rattle.machine.specs.Ledger.{Entry, after}
+use Rattle.ledger.specs.Ledger.{Entry, after}
 use Rattle.machine.specs.declared.state.Book.{Book}
 use Rattle.journal.specs.declared.lines.Line.{Line}
 use Rattle.journal.specs.Runs.{Done, nextOf}

@@ -5,7 +5,6 @@ use native.Mathlib.Omega.{arith}
 use native.Mathlib.Nat.{mul-add-div-right, mul-le-mul-left, sub-add-cancel, zero-mul}
 use Rattle.machine.specs.Book.{cents, highest}
 use Rattle.machine.specs.Fee.{feeOf, charged, FeeBound}
-use Rattle.machine.specs.Ledger.{paidBy, shares, Divided}
 use Rattle.machine.specs.declared.units.Cents.{Cents}
 use Rattle.machine.specs.declared.answers.Answer.{Answer}
 
@@ -34,11 +33,11 @@ fee-below r a h =
     let m : a * r ≤ a * 10000 = mul-le-mul-left a (omega arith) in
     omega arith
 
-pub charged-whole : (r : ℕ) (a : Answer) → r ≤ highest → (shares (paidBy (charged r a))) .merchant ≡ a .merchant .0
+pub charged-whole : (r : ℕ) (a : Answer) → r ≤ highest → (charged r a) .merchant .0 + (charged r a) .fee .0 ≡ a .merchant .0
 unfolding charged
 charged-whole r a h = sub-add-cancel (fee-below r (a .merchant .0) h)
 
-pub charged-divided : (r : ℕ) (a : Answer) → r ≤ highest → Divided r (paidBy (charged r a))
+pub charged-divided : (r : ℕ) (a : Answer) → r ≤ highest → (charged r a) .fee .0 ≡ feeOf r ((charged r a) .merchant .0 + (charged r a) .fee .0)
 unfolding charged
 charged-divided r a h = ap (feeOf r) (sym (charged-whole r a h))
 

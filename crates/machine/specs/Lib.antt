@@ -1,4 +1,4 @@
--- Document 01 as definitions, as document 02 changes it: the command format, the book, the checks, the opening, the fee, the rules, the machine; the third demand; the worked figures.
+-- Document 01 as definitions, as document 02 changes it: the command format, the book, the checks, the opening, the fee, the rules, the machine; the worked figures.
 pub mod Format
 pub mod Book
 pub mod Due
@@ -9,5 +9,4 @@ pub mod Rules
 pub mod Machine
 pub mod Real
 pub mod WrongTurns
-pub mod Ledger
 pub mod Figures

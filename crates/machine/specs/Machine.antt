@@ -30,6 +30,10 @@ answer j customer merchant = record {
   fee = cents 0;
 }
 
+-- An answer of zeros.
+abbrev pub noAnswer : Answer
+noAnswer = record { customer = cents 0; merchant = cents 0; steps = 0; refusal = 0; fee = cents 0 }
+
 -- A plan on one channel: a refused command changes nothing.
 unfoldable pub concluded : Judged → Channel → Channel → Cents → Cents → Ruled
 concluded j before after customer merchant = record { channel = cond (passed j) after before; answer = answer j customer merchant }

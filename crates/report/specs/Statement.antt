@@ -6,7 +6,7 @@ use mathlib.Core.List.{List, _++_}
 use lib.Dec.{ltb}
 use lib.ListN.{length, take, drop, replicate}
 use Rattle.machine.specs.Opening.{plainly, opening, blankBook}
-use Rattle.machine.specs.Ledger.{noAnswer}
+use Rattle.machine.specs.Machine.{noAnswer}
 use Rattle.machine.specs.declared.state.Book.{Book}
 use Rattle.journal.specs.declared.lines.Line.{Line}
 use Rattle.journal.specs.Runs.{Done, runOf}

@@ -10,7 +10,7 @@ use finaruvom::raw::Book;
 use finaruvom::{Cents, Settings};
 use oracle::{fee, CHANNELS, HIGHEST_RATE, LARGEST, SHORTEST_DELAY};
 
-/// Cases in a row that have every rate together.
+/// Cases in a row that have every rate together, as many as a run has at least.
 const CASES: usize = 20;
 
 /// Amounts at the edges of what a channel holds, and of a cent of fee at the lowest and the highest

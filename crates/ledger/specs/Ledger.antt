@@ -6,16 +6,16 @@ use mathlib.Core.List.{List, [], _∷_}
 use Prim.Native.Nat.{ℕ, _+_, _<_}
 use lib.ListN.{length, getD}
 use lib.Dec.{eqb, leb, ltb}
 use Rattle.machine.specs.Format.{opcode, size, time, place, amount, customerDeposit, merchantDeposit, delay, customerPart, merchantPart, lock, merchantKey, secret, signatures, signature, message}
-use Rattle.machine.specs.Book.{cents, reading}
+use Rattle.machine.specs.Book.{reading}
 use Rattle.machine.specs.Opening.{Opening, opening}
 use Rattle.machine.specs.Checks.{Verdict}
 use Rattle.machine.specs.Rules.{delayed}
 use Rattle.machine.specs.Fee.{feeOf}
-use Rattle.machine.specs.Machine.{step}
+use Rattle.machine.specs.Machine.{noAnswer, step}
 use Rattle.machine.specs.declared.state.Book.{Book}
 use Rattle.machine.specs.declared.answers.Answer.{Answer}
 use Rattle.machine.specs.declared.answers.Stepped.{Stepped}
 
 -- ---- a history: byte strings and the answers to them, the last one first
 
@@ -73,11 +73,7 @@ pub record Shares : Type 0 where
 abbrev pub shares : Paid → Shares
 shares p = record { customer = p .customer; merchant = p .merchant + p .fee }
 
--- An answer of zeros, which stands past the end of a history.
-abbrev pub noAnswer : Answer
-noAnswer = record { customer = cents 0; merchant = cents 0; steps = 0; refusal = 0; fee = cents 0 }
-
--- The entry at a place of a history.
+-- The entry at a place of a history; zeros past its end.
 abbrev pub entryAt : List Entry → ℕ → Entry
 entryAt h i = getD h i (record { string = []; answer = noAnswer })
 

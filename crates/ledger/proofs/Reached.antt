@@ -10,14 +10,14 @@ use Prim.Native.Nat.{ℕ, _/_, _%_}
 use lib.ListN.{getD, replicate}
 use Rattle.wire.specs.Numbers.{u16At, u32At, u64At}
 use Rattle.wire.specs.Parts.{same}
 use Rattle.machine.specs.Format.{size, message}
 use Rattle.machine.specs.Book.{total, held, soundChannel, sound, readChannel, reading}
 use Rattle.machine.specs.Checks.{Verdict, ask}
 use Rattle.machine.specs.Opening.{Opening, under, fresh}
 use Rattle.machine.specs.Fee.{charged}
 use Rattle.machine.specs.Rules.{delayed, keyed, establish, fundCustomer, fundMerchant, reclaim, mutualClose, customerClose, merchantClose, dispute, settle}
 use Rattle.machine.specs.Machine.{answer, concluded, ruling, verdict, plan, step}
-use Rattle.machine.specs.Ledger.{Standing, after}
+use Rattle.ledger.specs.Ledger.{Standing, after}
 
 -- The leaf is the fourth byte.
 unfoldable pub yes : List ℕ → List ℕ → List ℕ → Verdict

@@ -6,21 +6,21 @@ use Prim.Native.Nat.{ℕ, zero, suc, _+_, _≤_, _<_}
 use native.Mathlib.Omega.{arith}
 use lib.Dec.{eqb, leb}
 use borrow.Author.Tests.{eqb-true, leb-true, ne-eqb, not-true}
 use Rattle.machine.specs.Checks.{Verdict}
 use Rattle.machine.specs.Format.{opcode, amount, customerDeposit, merchantDeposit, delay, customerPart, merchantPart, lock, merchantKey, signatures}
 use Rattle.machine.specs.Book.{limit, shortest, longest, ranged, agreed, total, held, remembered, soundSetup}
 use Rattle.machine.specs.Book as book
 use Rattle.machine.specs.Rules.{Plan, moved, become, delayed, delayFits, established, establish, fundCustomer, fundMerchant, reclaim, mutualClose, customerClose, merchantClose, dispute, settle}
 use Rattle.machine.specs.Machine.{customerOf, merchantOf, verdict, plan}
-use Rattle.machine.specs.Ledger.{Event, paidBy, deposits, sum, opcodes, member, tally, has, count, eventOf, closings, agreedCustomer, agreedTotal, shares, paid, allMerchant, split, oneSided, Unspent}
+use Rattle.ledger.specs.Ledger.{Event, paidBy, deposits, sum, opcodes, member, tally, has, count, eventOf, closings, agreedCustomer, agreedTotal, shares, paid, allMerchant, split, oneSided, Unspent}
 use Rattle.machine.specs.declared.state.Channel.{Channel}
 use Rattle.machine.specs.declared.state.Context.{Context}
 use Rattle.machine.specs.declared.answers.Answer.{Answer}
 use Rattle.wire.proofs.Laws.{and-both}
 use Rattle.machine.proofs.Laws.{clash, in-range, setup-limits, or-neither, or-other, or-right}
 use Rattle.machine.proofs.Judging.{Passed}
-use Rattle.machine.proofs.Leaves.{unspent}
-use Rattle.machine.proofs.Life.{Basis, leafIn, Signed, Lacks, unclosed, unanswered, running, unmatched, unfunded, TermsOf, Money, Live, Waiting, Leaving, Over, StageAt, Stage}
+use Rattle.ledger.proofs.Leaves.{unspent}
+use Rattle.ledger.proofs.Life.{Basis, leafIn, Signed, Lacks, unclosed, unanswered, running, unmatched, unfunded, TermsOf, Money, Live, Waiting, Leaving, Over, StageAt, Stage}
 
 -- ---- laws
 

@@ -6,13 +6,13 @@ use Prim.Native.Nat.{ℕ, zero, suc, _+_, _≤_, _<_}
 use native.Mathlib.Omega.{arith}
 use lib.Dec.{eqb, leb}
 use borrow.Author.Tests.{le-leb}
 use Rattle.machine.specs.Book.{agreed, total, held, soundTerms, soundChannel}
-use Rattle.machine.specs.Ledger.{Event, deposits, sum, opcodes, member, has, eventOf, closed, closings, shares, paid, allMerchant, split, Unspent}
+use Rattle.ledger.specs.Ledger.{Event, deposits, sum, opcodes, member, has, eventOf, closed, closings, shares, paid, allMerchant, split, Unspent}
 use Rattle.machine.specs.declared.state.Channel.{Channel}
 use Rattle.wire.proofs.Laws.{and-make}
 use Rattle.machine.proofs.Laws.{clash, or-right}
-use Rattle.machine.proofs.Life.{Basis, leafIn, Signed, Lacks, unclosed, unanswered, running, unmatched, unfunded, TermsOf, Live, Leaving, StageAt}
-use Rattle.machine.proofs.Moves.{fewer, lacks-none, signed-none, tally-none, total-at, held-at}
+use Rattle.ledger.proofs.Life.{Basis, leafIn, Signed, Lacks, unclosed, unanswered, running, unmatched, unfunded, TermsOf, Live, Leaving, StageAt}
+use Rattle.ledger.proofs.Moves.{fewer, lacks-none, signed-none, tally-none, total-at, held-at}
 
 pub record Facts (x : Basis) (l : List Event) (c : Channel) : Type 0 where
   pub sound : soundChannel c ≡ true

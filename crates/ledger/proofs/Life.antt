@@ -4,12 +4,12 @@ use mathlib.Core.Bool.{Bool, true, false, cond, not, _&&_, _||_}
 use mathlib.Core.List.{List, [], _∷_}
 use Prim.Native.Nat.{ℕ, _+_, _≤_, _<_}
 use lib.ListN.{getD}
 use Rattle.machine.specs.Format.{customerDeposit, merchantDeposit, delay, customerPart, merchantPart, lock, merchantKey}
 use Rattle.machine.specs.Book.{limit, shortest, longest, agreed}
 use Rattle.machine.specs.Rules.{delayed}
-use Rattle.machine.specs.Ledger.{Event, deposits, member, has, eventOf, closed, closings, shares, paid, allMerchant, split, oneSided, Unspent}
+use Rattle.ledger.specs.Ledger.{Event, deposits, member, has, eventOf, closed, closings, shares, paid, allMerchant, split, oneSided, Unspent}
 use Rattle.machine.specs.declared.state.Channel.{Channel}
 use Rattle.machine.specs.declared.state.Setup.{Setup}
 
 -- ---- opcodes that have not come
 

@@ -7,16 +7,16 @@ use native.Mathlib.Omega.{arith}
 use borrow.Author.Tests.{eqb-false}
 use Rattle.wire.specs.Numbers.{u16At, u32At, u64At}
 use Rattle.wire.specs.Parts.{same}
 use Rattle.machine.specs.Format.{size, message}
 use Rattle.machine.specs.Book.{total, held, soundChannel, sound, readChannel, reading}
 use Rattle.machine.specs.Checks.{ask}
 use Rattle.machine.specs.Opening.{blankBook, fresh, opening}
 use Rattle.machine.specs.Fee.{feeOf, charged}
 use Rattle.machine.specs.Rules.{delayed, keyed, establish, fundCustomer, fundMerchant, reclaim, mutualClose, customerClose, merchantClose, dispute, settle}
 use Rattle.machine.specs.Machine.{answer, concluded, ruling, verdict, plan, step}
-use Rattle.machine.specs.Ledger.{Shares, shares, nothing, paidBy, entryAt, clock, strings, sum, opcodes, member, has, eventOf, paid, byMerchant, after, Accounted}
-use Rattle.machine.proofs.Reached.{yes, plain, opens, list, disputes, standing}
-use Rattle.machine.proofs.ThirdDemand.{third-demand}
+use Rattle.ledger.specs.Ledger.{Shares, shares, nothing, paidBy, entryAt, clock, strings, sum, opcodes, member, has, eventOf, paid, byMerchant, after, Accounted}
+use Rattle.ledger.proofs.Reached.{yes, plain, opens, list, disputes, standing}
+use Rattle.ledger.proofs.ThirdDemand.{third-demand}
 
 -- The claim of channel n, after a list given to the book just opened.
 abbrev AccountedAt : List (List ℕ) → ℕ → Type 0

@@ -5,11 +5,11 @@ use mathlib.Core.List.{List}
 use Prim.Native.Nat.{ℕ}
 use lib.Dec.{eqb}
 use borrow.Author.Tests.{eqb-false, ne-eqb}
 use Rattle.machine.specs.Book.{remembered}
-use Rattle.machine.specs.Ledger.{Event, has, eventOf, Unspent}
+use Rattle.ledger.specs.Ledger.{Event, has, eventOf, Unspent}
 use Rattle.machine.specs.declared.state.Channel.{Channel}
 use Rattle.machine.proofs.Laws.{or-neither}
-use Rattle.machine.proofs.Life.{Remembers}
+use Rattle.ledger.proofs.Life.{Remembers}
 
 module _ (leaf : ℕ → List ℕ → ℕ) (l : List Event) (c : Channel) (m : Remembers leaf l (c .leaves .first) (c .leaves .second)) (d : List ℕ) where
   -- A leaf that is neither that of the 07 nor of the 08 is not remembered.

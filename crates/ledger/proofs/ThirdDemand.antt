@@ -11,30 +11,30 @@ use borrow.Author.Tests.{eqb-true, eqb-false, leb-true, ltb-true, le-leb, lt-ltb
 use Rattle.wire.specs.Numbers.{u32At}
 use Rattle.sha256.specs.Digest.{sha256}
 use Rattle.lms.proofs.LeafLaw.{leafLaw}
 use Rattle.machine.specs.Format.{opcode, size, time, place, delay, signatures, signature, message}
 use Rattle.machine.specs.Book.{cents, limit, highest, theMark, soundChannel, all, soundSetup, sound, remembered, noChannel, channel, reading, readChannel}
 use Rattle.machine.specs.Checks.{Check, Verdict, clean, passed, judge}
 use Rattle.machine.specs.Opening.{Opening, openingChecks, setupOf, unused, fresh, opening}
 use Rattle.machine.specs.Fee.{charged}
 use Rattle.machine.specs.Rules.{Payment, pay, delayed, establish, fundCustomer, fundMerchant, reclaim, mutualClose, customerClose, merchantClose, dispute, settle}
 use Rattle.machine.specs.Machine.{answer, Order, setClock, onChannel, shared, carried, contextOf, plans, plan, noPlan, planned, order, verdict, step}
 use Rattle.machine.specs.Real.{lmsVerdict}
-use Rattle.machine.specs.Ledger.{Entry, Event, accepted, ofChannel, clock, strings, ofNone, paidBy, nothing, Divided, entryAt, opcodes, member, tally, has, eventOf, oneSided, Timely, Standing, recorded, after, leafOf, Disputes, Accounted, ThirdDemand}
+use Rattle.ledger.specs.Ledger.{Entry, Event, accepted, ofChannel, clock, strings, ofNone, paidBy, nothing, Divided, entryAt, opcodes, member, tally, has, eventOf, oneSided, Timely, Standing, recorded, after, leafOf, Disputes, Accounted, ThirdDemand}
 use Rattle.machine.specs.declared.state.Channel.{Channel}
 use Rattle.machine.specs.declared.state.Setup.{Setup}
 use Rattle.machine.specs.declared.state.Book.{Book}
 use Rattle.machine.specs.declared.answers.Answer.{Answer}
 use Rattle.machine.specs.declared.answers.Judged.{Judged}
 use Rattle.machine.specs.declared.answers.Stepped.{Stepped}
 use Rattle.wire.proofs.Laws.{and-both, and-make, same-refl}
 use Rattle.machine.proofs.Laws.{clash, setup-limits}
 use Rattle.machine.proofs.Fees.{charged-whole, charged-divided, free}
 use Rattle.machine.proofs.Judging.{Passed, coded, judge-passed, passed-judge}
 use Rattle.machine.proofs.Plans.{each-plan}
-use Rattle.machine.proofs.Life.{Basis, Stage}
-use Rattle.machine.proofs.Leaves.{unremembered}
-use Rattle.machine.proofs.Moves.{next, moves, Once, once-on, one-of}
-use Rattle.machine.proofs.Facts.{Facts, stage-facts}
+use Rattle.ledger.proofs.Life.{Basis, Stage}
+use Rattle.ledger.proofs.Leaves.{unremembered}
+use Rattle.ledger.proofs.Moves.{next, moves, Once, once-on, one-of}
+use Rattle.ledger.proofs.Facts.{Facts, stage-facts}
 
 -- ---- lists
 

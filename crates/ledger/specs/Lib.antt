@@ -1,0 +1,2 @@
+-- The mission's third demand: its words and the claim.
+pub mod Ledger
