@@ -353,8 +353,9 @@ FINARUVOM_CALL struct finaruvom_signature finaruvom_sign(struct finaruvom_signer
                                                          size_t message_n);
 
 // Collects the payments of a run, from its commands and its lines: each above zero, in the order of the commands, the customer's before the merchant's, with n
-// as the command has it. The merchant's is what he gets, without the fee, which is a payment to neither. It goes through commands and lines side by side, whatever refusal a line shows, passes over 01 and its line, and ends where the run
-// would. A list that is too short gives 18 and keeps every entry; entries behind the last payment keep their content.
+// as the command has it. The merchant's is what he gets, without the fee, which is a payment to neither. It goes through commands and lines side by side,
+// whatever refusal a line shows, passes over 01 and its line, and ends where the run would. A list that is too short gives 18 and keeps every entry; entries
+// behind the last payment keep their content.
 // Duties: commands not null, shared; lines not null, lines_n of them, aligned, shared; list not null, list_n payments, aligned, alone; stack
 // FINARUVOM_STACK_BANK.
 FINARUVOM_CALL struct finaruvom_counted finaruvom_collect(const uint8_t *commands, size_t commands_n, const struct finaruvom_line *lines, size_t lines_n,

@@ -1,7 +1,6 @@
 -- Two journals and a string between them, by computing, so that the demand of calls speaks of books that are reached.
 use mathlib.Core.Path.{_≡_, refl}
 use mathlib.Core.List.{List, [], _∷_, _++_}
-
 use native.Mathlib.Omega.{arith}
 use Rattle.wire.specs.Numbers.{u16At, u32At, u64At}
 use Rattle.wire.specs.Parts.{same}
