@@ -1,8 +1,8 @@
 -- A list by computing, so that the third demand speaks of books that are reached, with a check that always says yes and a hash that changes
--- nothing, on a book opened with a default of two days and a fee of 250: channel 2 is closed by both; the customer closes channels 5 and 7, whose 02 has the delay
--- 0; the clock shows the last second before the deadline of the default. On channel 5 the customer answers an 08 with leaf 7, by a 07 with leaf
--- 9; on channel 7 there is no 08, the 07 has leaf 1, and leaf 0 is not used. Channels 7 and 8 are the merchant's alone to fund; channel 8 is
--- reclaimed before he does.
+-- nothing, on a book opened with a default of two days and a fee of 250: channel 2 is closed by both; the customer closes channels 5 and 7,
+-- whose 02 has the delay 0; the clock shows the last second before the deadline of the default. On channel 5 the customer answers an 08 with
+-- leaf 7, by a 07 with leaf 9; on channel 7 there is no 08, the 07 has leaf 1, and leaf 0 is not used. Channels 7 and 8 are the merchant's
+-- alone to fund; channel 8 is reclaimed before he does.
 use mathlib.Core.Path.{_≡_, refl}
 use mathlib.Core.Bool.{true}
 use mathlib.Core.List.{List, [], _∷_, _++_}

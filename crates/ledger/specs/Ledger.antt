@@ -159,7 +159,7 @@ split l =
     (cond (has 8 l && has 10 l) (allMerchant l)
     (shares nothing)))))
 
--- A payment to the merchant, his part and the fee together: the fee is r ten-thousandths of it.
+-- Of a payment to the merchant, his part and the fee together, the fee is the whole part of r ten-thousandths.
 abbrev pub Divided : ℕ → Paid → Type 0
 Divided r p = p .fee ≡ feeOf r ((shares p) .merchant)
 
