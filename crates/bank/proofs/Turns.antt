@@ -10,7 +10,7 @@ use lib.Dec.{eqb, leb}
 use lib.ListN.{length, drop, getD, set, length-map, length-append}
 use Rattle.wire.specs.Numbers.{u16At}
 use Rattle.wire.proofs.Pasting.{pasted-none, length-pasted, pasted-more}
-use Rattle.machine.specs.Format.{opcode, place}
+use Rattle.machine.specs.Format.{opcode}
 use Rattle.payments.specs.declared.lists.Payment.{Payment}
 use Rattle.payments.specs.Payments.{payment, listed}
 use Rattle.payments.specs.Answers.{accepted, refused}
@@ -111,17 +111,11 @@ one-at-most p = go (eqb (p .amount .0) 0)
 
 pub two-at-most : (s : List ℕ) (l : Line) → length (paidIn s l) ≤ 2
 unfolding paidIn
-two-at-most s l = go (eqb (opcode s) 1)
+two-at-most s l = go (eqb (opcode s) 1) _ _
   where
-    a : List Payment
-    a = above (payment 1 (place s) (l .answer .customer .0))
-
-    b : List Payment
-    b = above (payment 2 (place s) (l .answer .merchant .0))
-
-    go : (x : Bool) → length (cond x [] (a ++ b)) ≤ 2
-    go true = omega arith
-    go false = omega (arith, length-append a b, one-at-most (payment 1 (place s) (l .answer .customer .0)), one-at-most (payment 2 (place s) (l .answer .merchant .0)))
+    go : (x : Bool) (p q : Payment) → length (cond x [] (above p ++ above q)) ≤ 2
+    go true p q = omega arith
+    go false p q = omega (arith, length-append (above p) (above q), one-at-most p, one-at-most q)
 
 module _ (s : List ℕ) (l : Line) (n : ℕ) (h : n ≡ u16At s 1) (e : getD s 0 0 ≡ 1 → ⊥) where
   abbrev first : Payment

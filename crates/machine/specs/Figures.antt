@@ -19,7 +19,7 @@ use Rattle.machine.specs.declared.state.Setup.{Setup}
 use Rattle.machine.specs.declared.state.Book.{Book}
 use Rattle.machine.specs.declared.answers.Ruled.{Ruled}
 
--- What a row shows: refusal and payments, then the reading's status, held and deadline.
+-- What a row shows: refusal and payments before the fee, then the reading's status, held and deadline.
 pub record Row : Type 0 where
   pub refusal : ℕ
   pub customer : ℕ

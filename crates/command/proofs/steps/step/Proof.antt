@@ -85,7 +85,7 @@ rule-requires c κs =
 charged-requires : tie.Need-charged-requires Inv-loop μ-loop
 charged-requires c κs =
     let y = c .before .before .before .before .before .before .before .before in
-    setup-limits (b (y .before .before .before) .setup) (sound-context _ (agreed y .steady) .0) .1
+    omega (arith, setup-limits (b (y .before .before .before) .setup) (sound-context _ (agreed y .steady) .0) .1)
 
 -- A 01.
 returns : tie.Need-returns Inv-loop μ-loop
