@@ -34,9 +34,9 @@ extern "C" {
 
 // The version that this header belongs to, and the number of the book's layout, which the mark of every book carries.
 #define FINARUVOM_VERSION_MAJOR 0
-#define FINARUVOM_VERSION_MINOR 16
+#define FINARUVOM_VERSION_MINOR 17
 #define FINARUVOM_VERSION_PATCH 0
-#define FINARUVOM_LAYOUT 5
+#define FINARUVOM_LAYOUT 6
 
 // Sizes in bytes, the number of channels, and those of a signer's leaves and places for nodes.
 #define FINARUVOM_ID_SIZE 16
@@ -47,9 +47,9 @@ extern "C" {
 #define FINARUVOM_PARTY_SIZE 64
 #define FINARUVOM_CHANNEL_LEAVES_SIZE 8
 #define FINARUVOM_CHANNEL_SIZE 192
-#define FINARUVOM_SETUP_SIZE 8
-#define FINARUVOM_BOOK_SIZE 12328
-#define FINARUVOM_SETTINGS_SIZE 8
+#define FINARUVOM_SETUP_SIZE 272
+#define FINARUVOM_BOOK_SIZE 12592
+#define FINARUVOM_SETTINGS_SIZE 12
 #define FINARUVOM_ANSWER_SIZE 32
 #define FINARUVOM_LINE_SIZE 32
 #define FINARUVOM_READING_SIZE 72
@@ -76,6 +76,10 @@ extern "C" {
 // The highest fee, in ten-thousandths of what the merchant is paid; a book of the plain opening has none, and the desk's settings have none.
 #define FINARUVOM_HIGHEST_FEE 1000
 
+// Dates that an opening can be given, and the days from 1970-01-01 to 2399-12-31: a book keeps a date as its day number, 0 for 1970-01-01.
+#define FINARUVOM_MOST_DATES 64
+#define FINARUVOM_DAYS 157054
+
 // The largest amount of a bank line, in cents: fifteen digits.
 #define FINARUVOM_LARGEST_AMOUNT UINT64_C(999999999999999)
 
@@ -99,6 +103,8 @@ enum finaruvom_refusal {
     FINARUVOM_LENGTH = 2,
     FINARUVOM_SETTINGS_DELAY = 14, // the default delay given at an opening is out of range
     FINARUVOM_SETTINGS_FEE = 20,   // the fee given at an opening is above 1,000 ten-thousandths
+    FINARUVOM_SETTINGS_DATE = 21,  // a date given at an opening does not exist, or its year is not 1970 to 2399
+    FINARUVOM_SETTINGS_DATES = 22, // more than 64 dates given at an opening, or one that is not later than the one before it
     FINARUVOM_NO_LEAF = 15,        // the signer's leaves are all used
     FINARUVOM_TIME = 3,            // before the clock, or above 2^63 - 1
     FINARUVOM_CHANNEL = 4,         // not below 64
@@ -134,7 +140,7 @@ enum finaruvom_cause {
     FINARUVOM_CUT_SHORT = 2,
 };
 
-// Money is in cents, time in seconds from 1970-01-01. No struct has padding: equal values are equal bytes.
+// Money is in cents, time in seconds from 1970-01-01. No struct but the settings has padding: equal values are equal bytes.
 struct finaruvom_party {
     uint8_t key[FINARUVOM_KEY_SIZE];
     uint64_t deposit;
@@ -158,10 +164,16 @@ struct finaruvom_channel {
     struct finaruvom_leaves leaves;
 };
 
-// What a book keeps of its opening: the default delay, which a 0 in command 02 stands for, and the fee, in ten-thousandths of each payment to a merchant.
+// What a book keeps of its opening: the default delay, which a 0 in command 02 stands for; the fee, in ten-thousandths of each payment to a merchant; and,
+// where dated is 1, the shut dates as day numbers, the first count of days. Saturdays and Sundays are shut then too; where dated is 0 no day is. A sound book
+// has a dated of 0 or 1, a count of at most FINARUVOM_MOST_DATES and strictly rising days below FINARUVOM_DAYS, whatever dated is; behind the first count of
+// days anything may stand.
 struct finaruvom_setup {
     uint32_t delay;
     uint32_t fee;
+    uint32_t days[FINARUVOM_MOST_DATES];
+    uint32_t count;
+    uint32_t dated;
 };
 
 struct finaruvom_book {
@@ -172,11 +184,12 @@ struct finaruvom_book {
     struct finaruvom_channel channels[FINARUVOM_CHANNELS];
 };
 
-// What an opening is given: the default delay, and the fee in ten-thousandths. Start from the plain or the desk's settings: later versions may have more
-// fields.
+// What an opening is given: the default delay, the fee in ten-thousandths, and whether it is given a list of shut dates. dated is false or true, a byte of 0 or
+// 1, as C's bool always is. Start from the plain or the desk's settings: later versions may have more fields.
 struct finaruvom_settings {
     uint32_t delay;
     uint32_t fee;
+    bool dated;
 };
 
 // What a command answers: what it paid to each side, the chain steps of its signature checks, the refusal, or 0, and the fee. The merchant's figure is what he
@@ -288,8 +301,8 @@ FINARUVOM_ASSERT(sizeof(struct finaruvom_signature) == sizeof(uint32_t) + FINARU
 struct finaruvom_versions finaruvom_version(void);
 
 // The layout. Its name carries the number and every program refers to it, so that one does not link with a library of another layout.
-uint32_t finaruvom_layout_5(void);
-FINARUVOM_KEPT static uint32_t (*const finaruvom_linked_layout)(void) = finaruvom_layout_5;
+uint32_t finaruvom_layout_6(void);
+FINARUVOM_KEPT static uint32_t (*const finaruvom_linked_layout)(void) = finaruvom_layout_6;
 
 // The SHA-256 digest of at most 65,536 bytes, and 0; of more, zeros and 2.
 // Duties: bytes not null, shared; digest not null, 32 bytes, alone; stack FINARUVOM_STACK_HASH.
@@ -305,10 +318,10 @@ FINARUVOM_CALL uint32_t finaruvom_check(const uint8_t *key, size_t key_n, const 
 // The whole length of the command that begins with this byte; 0 where it begins none. No duties.
 size_t finaruvom_size(uint8_t first);
 
-// What the plain opening is given: the default delay is FINARUVOM_PLAIN_DELAY, the fee 0. No duties.
+// What the plain opening is given: the default delay is FINARUVOM_PLAIN_DELAY, the fee 0, and there is no list of dates. No duties.
 struct finaruvom_settings finaruvom_plain_settings(void);
 
-// What the desk gives for a new book: the default delay is FINARUVOM_DESK_DELAY, the fee 0: set the one that was agreed. No duties.
+// What the desk gives for a new book: the default delay is FINARUVOM_DESK_DELAY, the fee 0, and there is no list of dates: set what was agreed. No duties.
 struct finaruvom_settings finaruvom_desk_settings(void);
 
 // The plain opening: makes any lent book fresh, with the id and the plain settings, and answers 0; an id that is not 16 bytes long gives 2 and keeps
@@ -316,10 +329,14 @@ struct finaruvom_settings finaruvom_desk_settings(void);
 // Duties: book not null, aligned, alone; id not null, shared; stack FINARUVOM_STACK_OPEN.
 FINARUVOM_CALL uint32_t finaruvom_open(struct finaruvom_book *book, const uint8_t *id, size_t id_n);
 
-// The same with these settings: after the id, a default delay that is not FINARUVOM_SHORTEST_DELAY to FINARUVOM_LONGEST_DELAY gives 14, then a fee above
-// FINARUVOM_HIGHEST_FEE 20, and it keeps every value.
-// Duties: book not null, aligned, alone; id not null, shared; stack FINARUVOM_STACK_OPEN.
-FINARUVOM_CALL uint32_t finaruvom_open_with(struct finaruvom_book *book, const uint8_t *id, size_t id_n, struct finaruvom_settings settings);
+// The same with these settings and shut dates, each year x 10,000 + month x 100 + day, as 20261225, strictly rising. After the id, a default delay that is not
+// FINARUVOM_SHORTEST_DELAY to FINARUVOM_LONGEST_DELAY gives 14, then a fee above FINARUVOM_HIGHEST_FEE 20, then a date that does not exist or whose year is not
+// 1970 to 2399, wherever in the list and however long it is, 21, then more than FINARUVOM_MOST_DATES dates, or one that is not later than the one before it,
+// 22, and it keeps every value. Where settings.dated is false there is no list: the dates are not looked at, and no day is shut. Where it is true Saturdays,
+// Sundays and the dates are shut, with none the weekends alone: a deadline that falls on a shut day is 00:00:00 of the next day that is not.
+// Duties: book not null, aligned, alone; id not null, shared; dates not null, dates_n of them, aligned as uint32_t, shared; stack FINARUVOM_STACK_OPEN.
+FINARUVOM_CALL uint32_t finaruvom_open_with(struct finaruvom_book *book, const uint8_t *id, size_t id_n, struct finaruvom_settings settings,
+                                            const uint32_t *dates, size_t dates_n);
 
 // Carries a command out on the lent book, or refuses it and keeps every value. The book is written also where it is refused, with what stood there.
 // Duties: book not null, aligned, alone; command not null, shared; stack FINARUVOM_STACK_APPLY.

@@ -12,7 +12,8 @@ use Rattle.wire.specs.Numbers.{u32At}
 use Rattle.sha256.specs.Digest.{sha256}
 use Rattle.lms.proofs.LeafLaw.{leafLaw}
 use Rattle.machine.specs.Format.{opcode, size, time, place, delay, signatures, signature, message}
-use Rattle.machine.specs.Book.{cents, limit, highest, theMark, soundChannel, all, soundSetup, sound, remembered, noChannel, channel, reading, readChannel}
+use Rattle.wire.specs.Parts.{all}
+use Rattle.machine.specs.Book.{cents, limit, highest, theMark, soundChannel, soundSetup, sound, remembered, noChannel, channel, reading, readChannel}
 use Rattle.machine.specs.Checks.{Check, Verdict, clean, passed, judge}
 use Rattle.machine.specs.Opening.{Opening, openingChecks, setupOf, unused, fresh, opening}
 use Rattle.machine.specs.Fee.{charged}

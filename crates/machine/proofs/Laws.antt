@@ -5,8 +5,8 @@ use mathlib.Core.List.{List, [], _∷_}
 use Prim.Native.Nat.{ℕ, _≤_}
 use lib.Dec.{eqb, leb}
 use borrow.Author.Tests.{eqb-true, leb-true}
-use Rattle.wire.specs.Parts.{same}
-use Rattle.machine.specs.Book.{limit, shortest, longest, ranged, highest, theMark, soundChannel, all, soundSetup, sound}
+use Rattle.wire.specs.Parts.{same, all}
+use Rattle.machine.specs.Book.{limit, shortest, longest, ranged, highest, theMark, soundChannel, soundSetup, sound}
 use Rattle.machine.specs.declared.state.Setup.{Setup}
 use Rattle.machine.specs.declared.state.Book.{Book}
 use Rattle.wire.proofs.Laws.{and-both}

@@ -10,7 +10,8 @@ use lib.ListN.{getD, drop}
 use borrow.Author.Tests.{eq-eqb, ne-eqb, eqb-false, le-leb, lt-leb, lt-ltb}
 use Rattle.lms.specs.Layout.{typedKey}
 use Rattle.machine.specs.Format.{opcode, time, place}
-use Rattle.machine.specs.Book.{limit, ranged, layout, markOf, theMark, all, soundChannel, soundSetup, sound, total, readChannel, reading, channel}
+use Rattle.wire.specs.Parts.{all}
+use Rattle.machine.specs.Book.{limit, ranged, layout, markOf, theMark, soundChannel, soundSetup, sound, total, readChannel, reading, channel}
 use Rattle.machine.specs.Checks.{Check, test, Verdict, clean, ask, judge}
 use Rattle.machine.specs.Opening.{Opening, fresh, opening}
 use Rattle.machine.specs.Due.{due}

@@ -1,10 +1,11 @@
 -- Document 01, "Book": T, held, soundness, readings; document 02, No. 1 and No. 7: the default and the fee that a sound book keeps in their
 -- limits; No. 5: the leaves that a channel remembers.
-use mathlib.Core.Bool.{Bool, true, cond, not, _&&_, _||_}
-use mathlib.Core.List.{List, [], _∷_}
+use mathlib.Core.Bool.{Bool, cond, not, _&&_, _||_}
+use mathlib.Core.List.{List, []}
 use Prim.Native.Nat.{ℕ, _+_, _-_, _^_}
 use lib.ListN.{getD, set, replicate}
 use lib.Dec.{eqb, leb, ltb}
+use Rattle.wire.specs.Parts.{all}
 use Rattle.machine.specs.declared.units.Cents.{Cents}
 use Rattle.machine.specs.declared.units.Seconds.{Seconds}
 use Rattle.machine.specs.declared.state.Party.{Party}
@@ -90,10 +91,6 @@ soundTerms ch =
 
 unfoldable pub soundChannel : Channel → Bool
 soundChannel ch = leb (ch .status) 6 && (eqb (ch .status) 0 || soundTerms ch)
-
-abbrev pub all : {A : Type 0} → (A → Bool) → List A → Bool
-all p [] = true
-all p (x ∷ l) = p x && all p l
 
 -- What the opening fixed is in its limits.
 abbrev pub soundSetup : Setup → Bool

@@ -6,8 +6,7 @@ use mathlib.Core.List.{List, map}
 use borrow.Author.Tests.{ltb-true, ltb-false, le-leb, lt-leb}
 use lib.Dec.{eqb, leb, ltb}
 use lib.ListN.{length}
-use Rattle.wire.specs.Parts.{pasted}
-use Rattle.machine.specs.Book.{all}
+use Rattle.wire.specs.Parts.{pasted, all}
 use Rattle.machine.specs.Checks.{ask}
 use Rattle.payments.specs.declared.lists.Payment.{Payment}
 use Rattle.payments.specs.Payments.{listed}

@@ -7,10 +7,9 @@ use mathlib.Core.List.{List, map}
 use borrow.Author.Tests.{leb-true, le-leb, eq-eqb, eqb-true}
 use lib.Dec.{eqb, leb}
 use lib.ListN.{length, take, length-map}
-use Rattle.wire.specs.Parts.{pasted}
+use Rattle.wire.specs.Parts.{pasted, all}
 use Rattle.wire.proofs.Laws.{and-both, and-make}
 use Rattle.wire.proofs.Pasting.{take-pasted}
-use Rattle.machine.specs.Book.{all}
 use Rattle.payments.specs.declared.lists.Payment.{Payment}
 use Rattle.payments.specs.Payments.{listed, paymentOf}
 use Rattle.payments.specs.Packed.{entry, written, parted, entriesOf, paymentIn, good}

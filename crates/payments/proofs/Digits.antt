@@ -10,7 +10,7 @@ use lib.Arith.{digits-div, digits-mod, mod-mul}
 use lib.Dec.{leb}
 use lib.ListN.{length}
 use Rattle.wire.proofs.Laws.{both, and-both, and-make}
-use Rattle.machine.specs.Book.{all}
+use Rattle.wire.specs.Parts.{all}
 use Rattle.payments.specs.Packed.{digits, spelled, joined, halves, isDigit}
 
 -- ---- digits

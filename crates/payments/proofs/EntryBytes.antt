@@ -9,10 +9,9 @@ use lib.Dec.{eqb}
 use lib.ListN.{length, getD, drop, drop-of-length-le}
 use lib.Seq.{drop-cons, paste}
 use Rattle.wire.specs.Numbers.{bytes}
-use Rattle.wire.specs.Parts.{pasted}
+use Rattle.wire.specs.Parts.{pasted, all}
 use Rattle.wire.proofs.Laws.{both}
 use Rattle.wire.proofs.Pasting.{pasted-more}
-use Rattle.machine.specs.Book.{all}
 use Rattle.payments.specs.declared.lists.Payment.{Payment}
 use Rattle.payments.specs.Packed.{digits, spelled, joined, halves, packed, entry, amountIn, isDigit, isPacked}
 

@@ -4,30 +4,14 @@ use native.Mathlib.Nat.{add-zero}
 use native.Mathlib.Numerals.{add-one}
 use native.Mathlib.Omega.{arith}
 use mathlib.Core.Path.{_≡_, refl, ap, _∙_}
-use mathlib.Core.Bool.{Bool, _&&_}
 use mathlib.Core.List.{List, [], _∷_, _++_, map}
 use lib.ListN.{length, take, drop, getD, set, drop-of-length-le, length-map}
-use lib.Seq.{take-all, drop-cons, drop-drop}
+use lib.Seq.{drop-cons, drop-drop}
 use Rattle.wire.specs.Numbers.{bytes}
 use Rattle.wire.specs.Parts.{part, pasted}
 use Rattle.wire.proofs.Pasting.{pasted-none, pasted-one}
-use Rattle.machine.specs.Book.{all}
-use Rattle.command.proofs.SoundBook.{all-more}
 use Rattle.payments.specs.declared.lists.Payment.{Payment}
 use Rattle.payments.specs.Packed.{digits, joined, packed, entry, written, parted, entriesOf, paymentIn}
-
--- ---- tests of all, one by one
-
-pub all-map : {A B : Type 0} (f : A → B) (p : B → Bool) (l : List A) → all (λ x. p (f x)) l ≡ all p (map f l)
-all-map f p [] = refl
-all-map f p (x ∷ l) = ap (λ (t : Bool). p (f x) && t) (all-map f p l)
-
-module _ {A : Type 0} (p : A → Bool) (l : List A) (ok : Bool) (i : ℕ) (t : ok ≡ all p (take i l)) where
-  pub tested-next : (d : A) (x : Bool) → i < length l → x ≡ p (getD l i d) → (ok && x) ≡ all p (take (i + 1) l)
-  tested-next d x h e = rw (t, e, add-one) (all-more p l i d h)
-
-  pub tested-whole : length l ≤ i → ok ≡ all p l
-  tested-whole h = t ∙ ap (all p) (take-all i l h)
 
 -- ---- stored one by one
 

@@ -11,7 +11,7 @@ use lib.ListN.{length, take, drop, getD, length-append, length-drop, take-append
 use lib.Seq.{take-at, drop-at, getD-at, drop-cons, take-suc, take-all, length-take-le}
 use Rattle.wire.specs.Numbers.{bytes, u16At}
 use Rattle.wire.proofs.Laws.{both, and-both, and-make}
-use Rattle.machine.specs.Book.{all}
+use Rattle.wire.specs.Parts.{all}
 use Rattle.payments.specs.declared.lists.Payment.{Payment}
 use Rattle.payments.specs.Payments.{payment, isParty, listed, paymentOf}
 use Rattle.payments.specs.Packed.{digits, spelled, joined, halves, packed, entry, written, parted, amountHalves, amountIn, paymentIn, isDigit, isPacked, good}

@@ -4,8 +4,7 @@ use mathlib.Core.Bool.{Bool, cond, not, _&&_}
 use mathlib.Core.List.{List, [], _∷_, map}
 use lib.Dec.{eqb, leb}
 use lib.ListN.{length}
-use Rattle.wire.specs.Parts.{pasted}
-use Rattle.machine.specs.Book.{all}
+use Rattle.wire.specs.Parts.{pasted, all}
 use Rattle.machine.specs.Checks.{Check, test, clean, judge}
 use Rattle.payments.specs.Payments.{isParty, listed}
 use Rattle.payments.specs.Packed.{written, entriesOf, paymentIn, good}

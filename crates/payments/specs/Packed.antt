@@ -5,7 +5,7 @@ use mathlib.Core.List.{List, [], _∷_, _++_}
 use lib.Dec.{eqb, leb}
 use lib.ListN.{length, take, drop, getD}
 use Rattle.wire.specs.Numbers.{bytes, u16At}
-use Rattle.machine.specs.Book.{all}
+use Rattle.wire.specs.Parts.{all}
 use Rattle.payments.specs.Payments.{payment, isParty}
 use Rattle.payments.specs.declared.lists.Payment.{Payment}
 

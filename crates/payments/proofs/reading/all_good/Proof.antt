@@ -4,9 +4,10 @@ use native.Mathlib.Omega.{arith}
 use mathlib.Core.Path.{_≡_, refl, sym, ap, _∙_}
 use mathlib.Core.List.{[]}
 use lib.ListN.{length, take}
-use Rattle.machine.specs.Book.{all}
+use Rattle.wire.specs.Parts.{all}
 use Rattle.payments.specs.Packed.{entriesOf, good}
-use Rattle.payments.proofs.Listing.{tested-next, tested-whole, parted-length, parted-at}
+use Rattle.wire.proofs.Tested.{tested-next, tested-whole}
+use Rattle.payments.proofs.Listing.{parted-length, parted-at}
 use Rattle.payments.proofs.reading.all_good.Statement.{statement}
 use Rattle.payments.proofs.reading.all_good.Tie as tie
 

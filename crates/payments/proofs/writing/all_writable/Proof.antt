@@ -6,10 +6,10 @@ use mathlib.Core.Bool.{Bool}
 use mathlib.Core.List.{List, []}
 use borrow.Author.Needs.{needs}
 use lib.ListN.{length, take}
-use Rattle.machine.specs.Book.{all}
+use Rattle.wire.specs.Parts.{all}
 use Rattle.payments.specs.Payments.{paymentOf}
 use Rattle.payments.specs.Answers.{writable}
-use Rattle.payments.proofs.Listing.{all-map, tested-next, tested-whole}
+use Rattle.wire.proofs.Tested.{all-map, tested-next, tested-whole}
 use Rattle.payments.proofs.writing.all_writable.Statement.{statement}
 use Rattle.payments.proofs.writing.all_writable.Tie as tie
 

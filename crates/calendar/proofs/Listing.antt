@@ -1,0 +1,136 @@
+-- Lists of dates, one by one.
+use mathlib.Core.Path.{_≡_, refl, sym, ap, _∙_}
+use mathlib.Core.Bool.{Bool, true, false, false≢true, _&&_, _||_, and-true, and-assoc}
+use mathlib.Core.List.{List, [], _∷_, _++_, map, map-append, append-assoc}
+use Prim.Native.Nat.{ℕ, zero, suc, _+_, _-_, _≤_, _<_}
+use native.Mathlib.Numerals.{add-one, unary-clauses}
+use native.Mathlib.Omega.{arith}
+use lib.Dec.{eqb, leb, ltb}
+use lib.ListN.{length, take, getD, replicate, set, length-map, length-take}
+use lib.Seq.{take-all, take-at, set-at, take-suc, getD-take, length-take-le}
+use borrow.Author.Tests.{lt-ltb, lt-leb, ne-eqb}
+use Rattle.wire.specs.Parts.{all}
+use Rattle.wire.proofs.Tested.{all-more}
+use Rattle.calendar.specs.Calendar.{numbered, numberOf}
+use Rattle.calendar.specs.Days.{above, rising}
+use Rattle.calendar.specs.Lists.{most, given, allDates, inOrder, keptDays, soundDays}
+use Rattle.calendar.proofs.Counting.{number-fits}
+
+-- ---- rising, one more
+
+abbrev pub inTime : ℕ → Bool
+inTime d = ltb d numbered
+
+-- The day at place i is above the one before it.
+abbrev pub rises : List ℕ → ℕ → Bool
+rises l i = eqb i 0 || ltb (getD l (i - 1) 0) (getD l i 0)
+
+-- The day at place i is a day number too: as the code takes it.
+abbrev pub Follows : List ℕ → ℕ → Bool
+Follows l i = rises l i && inTime (getD l i 0)
+
+pub follows-first : (l : List ℕ) (i : ℕ) → i ≡ 0 → inTime (getD l 0 0) ≡ Follows l i
+follows-first l i e = rw e
+
+pub follows-next : (l : List ℕ) (i : ℕ) → (i ≡ 0 → ⊥) → (ltb (getD l (i - 1) 0) (getD l i 0) && inTime (getD l i 0)) ≡ Follows l i
+follows-next l i h = rw (ne-eqb i 0 h)
+
+above-more : (p : ℕ) (l : List ℕ) (i : ℕ) → i < length l → (above p (take i l) && ltb (getD (p ∷ l) i 0) (getD l i 0)) ≡ above p (take (suc i) l)
+unfolding above
+above-more p [] i h = let z : ⊥ = omega arith in absurd z
+above-more p (x ∷ l) zero h = sym (and-true (ltb p x))
+above-more p (x ∷ l) (suc i) h =
+    and-assoc (ltb p x) (above x (take i l)) (ltb (getD (x ∷ l) i 0) (getD l i 0)) ∙ ap (λ (t : Bool). ltb p x && t) (above-more x l i (omega arith))
+
+rising-more : (l : List ℕ) (i : ℕ) → i < length l → (rising (take i l) && rises l i) ≡ rising (take (suc i) l)
+unfolding rising above
+rising-more [] i h = let z : ⊥ = omega arith in absurd z
+rising-more (x ∷ l) zero h = refl
+rising-more (x ∷ l) (suc i) h =
+    let e : suc i - 1 ≡ i = omega arith in
+    rw (ne-eqb (suc i) 0 (λ q. omega arith), e) (above-more x l i (omega arith))
+
+-- ---- the test of a book's days
+
+crossed : (c a b x y : Bool) → ((c && (a && b)) && (x && y)) ≡ (c && ((a && x) && (b && y)))
+crossed false a b x y = refl
+crossed true false b x y = refl
+crossed true true false false y = refl
+crossed true true false true y = refl
+crossed true true true x y = refl
+
+-- After i turns the flag says whether there are few enough, and whether the first i of them are good.
+abbrev pub Sound : List ℕ → ℕ → Bool → ℕ → Type 0
+Sound days count ok i = (i ≤ 64) × (ok ≡ (leb count most && (rising (take i (take count days)) && all inTime (take i (take count days)))))
+
+pub sound-none : (days : List ℕ) (count : ℕ) → Sound days count (leb count most) 0
+unfolding rising
+sound-none days count = (omega arith, sym (and-true _))
+
+module _ (days : List ℕ) (count : ℕ) (n : length days ≡ 64) (ok : Bool) (i : ℕ) (t : Sound days count ok i) where
+  pub sound-more : i < 64 → i < count → (x : Bool) → x ≡ Follows days i → Sound days count (ok && x) (i + 1)
+  sound-more h k x e =
+      let l = take count days in
+      let m : i < length l = rw (length-take count days) (omega (arith, n)) in
+      let g = getD-take count days i 0 k in
+      let before : getD l (i - 1) 0 ≡ getD days (i - 1) 0 = getD-take count days (i - 1) 0 (omega arith) in
+      let r : (rising (take i l) && rises days i) ≡ rising (take (suc i) l) = rw (g, before) at (rising-more l i m) in
+      let a : (all inTime (take i l) && inTime (getD days i 0)) ≡ all inTime (take (suc i) l) = rw g at (all-more inTime l i 0 m) in
+      (omega arith, rw (t .1, e, add-one, ← r, ← a) (crossed (leb count most) (rising (take i l)) (all inTime (take i l)) (rises days i) (inTime (getD days i 0))))
+
+  pub sound-past : i < 64 → count ≤ i → Sound days count ok (i + 1)
+  sound-past h k =
+      let l = take count days in
+      let m : length l ≤ i = rw (length-take count days) (omega arith) in
+      (omega arith, t .1 ∙ rw (take-all i l m, take-all (i + 1) l (omega (arith, m))))
+
+  pub sound-all : 64 ≤ i → ok ≡ soundDays count days
+  sound-all h =
+      let l = take count days in
+      let m : length l ≤ i = rw (length-take count days) (omega (arith, n)) in
+      t .1 ∙ rw (take-all i l m) (sym (and-assoc (leb count most) (rising l) (all inTime l)))
+
+-- ---- what a book keeps
+
+numbers-fit : (l : List ℕ) → all inTime (map numberOf l) ≡ true
+numbers-fit [] = refl
+numbers-fit (x ∷ l) = rw (lt-ltb _ _ (number-fits x)) (numbers-fit l)
+
+-- The first of the kept days are those of the list, and sound where they rise.
+pub kept-list : (l : List ℕ) → take (length l) (keptDays l) ≡ map numberOf l
+kept-list l = take-at (map numberOf l) _ (length l) (length-map l numberOf)
+
+pub kept-sound : (l : List ℕ) → soundDays (length l) (keptDays l) ≡ (leb (length l) most && rising (map numberOf l))
+kept-sound l = rw (kept-list l, numbers-fit l) (and-true _)
+
+-- After i turns the first i are kept.
+abbrev pub Kept : List ℕ → ℕ → List ℕ
+Kept l i = map numberOf (take i l) ++ replicate (most - i) 0
+
+pub kept-more : (l : List ℕ) (i : ℕ) → length l ≤ 64 → i < length l → (x : ℕ) → x ≡ numberOf (getD l i 0) → set (Kept l i) i x ≡ Kept l (i + 1)
+kept-more l i h k x e =
+    let front = map numberOf (take i l) in
+    let n : length front ≡ i = length-map (take i l) numberOf ∙ length-take-le i l (omega arith) in
+    let m : most - i ≡ suc (most - (i + 1)) = omega arith in
+    let s : map numberOf (take (i + 1) l) ≡ front ++ x ∷ [] = rw (add-one, e, take-suc l i 0 k) (map-append numberOf (take i l) (getD l i 0 ∷ [])) in
+    rw (m, s) (set-at front 0 _ x i n ∙ sym (append-assoc front (x ∷ []) _))
+
+pub kept-whole : (l : List ℕ) (i : ℕ) → i ≤ length l → length l ≤ i → Kept l i ≡ keptDays l
+kept-whole l i h k = let e : i ≡ length l = omega arith in rw (e, take-all (length l) l (omega arith))
+
+-- ---- the list that an opening is given
+
+abbrev pub Lists : Bool → List ℕ → List ℕ → ℕ → Bool → Bool → Type 0
+Lists dated l days count exist fit =
+    (exist ≡ allDates (given dated l)) × ((fit ≡ inOrder (given dated l)) × (fit ≡ true → (days ≡ keptDays (given dated l)) × (count ≡ length (given dated l))))
+
+pub no-list : (dated : Bool) (l : List ℕ) → dated ≡ false → Lists dated l (replicate 64 0) 0 true true
+unfolding rising
+no-list dated l e = rw e (refl, (refl, λ h. (refl, refl)))
+
+module _ (dated : Bool) (l : List ℕ) (e : dated ≡ true) (exist : Bool) (x : exist ≡ allDates l) where
+  pub long-list : (days : List ℕ) (count : ℕ) → 64 < length l → Lists dated l days count exist false
+  long-list days count h = rw (e, lt-leb _ _ h) (x, (refl, λ z. absurd (false≢true z)))
+
+  pub short-list : (days : List ℕ) (count : ℕ) → days ≡ keptDays l → count ≡ length l → (fit : Bool) → fit ≡ soundDays count days → Lists dated l days count exist fit
+  short-list days count d n fit h = rw e (x, (h ∙ rw (d, n) (kept-sound l), λ z. (d, n)))
