@@ -26,13 +26,14 @@ pub fn open(book: &mut Book, id: &[u8]) -> u32
     done.refusal
 }
 
-// The opening with settings: 2 for the id, then 14 where the default delay is out of its range, then 20 for the fee; refused, it keeps every value.
-pub fn open_with(book: &mut Book, id: &[u8], settings: Settings) -> u32
-    ensures { λ r. ⌜ (r ≡ opening (now (book .entry)) (under settings (now (id .entry))) .refusal)
-        × (now (book .exit) ≡ opening (now (book .entry)) (under settings (now (id .entry))) .book) ⌝ }
+// The opening with settings and dates: 2 for the id, then 14 where the default delay is out of its range, then 20 for the fee, then 21 where a date does not
+// exist, then 22 where they are more than 64 or do not rise; refused, it keeps every value.
+pub fn open_with(book: &mut Book, id: &[u8], settings: Settings, dates: &[u32]) -> u32
+    ensures { λ r. ⌜ (r ≡ opening (now (book .entry)) (under settings (now (dates .entry)) (now (id .entry))) .refusal)
+        × (now (book .exit) ≡ opening (now (book .entry)) (under settings (now (dates .entry)) (now (id .entry))) .book) ⌝ }
 {
     let lent = *book;
-    let done = opened_with(lent, id, settings);
+    let done = opened_with(lent, id, settings, dates);
     *book = done.book;
     done.refusal
 }

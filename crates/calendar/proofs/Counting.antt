@@ -8,7 +8,7 @@ use lib.Dec.{eqb, leb, ltb}
 use lib.ListN.{length, getD, List·getD-eq-default}
 use borrow.Author.Tests.{eqb-true, eqb-false, leb-true, ltb-true, ltb-false}
 use Rattle.wire.proofs.Laws.{and-both}
-use Rattle.calendar.specs.Calendar.{Date, date, leap, monthDays, before, yearDays, since, exists, dayOf, numbered, following, numberOf, isDate, dateOf, CalendarMeans}
+use Rattle.calendar.specs.Calendar.{Date, date, leap, monthDays, before, yearDays, since, exists, dayOf, numbered, following, dayNumber, isDate, dateOf, CalendarMeans}
 
 -- ---- a test of every number below n
 
@@ -135,20 +135,20 @@ in-time t e =
     let n = (years k (omega (arith, e .year-high))) .1 in
     omega (arith, e .day-low, e .day-high, m, rw y at n)
 
-pub number-fits : (x : ℕ) → numberOf x < numbered
-unfolding numberOf
+pub number-fits : (x : ℕ) → dayNumber x < numbered
+unfolding dayNumber
 number-fits x = go (isDate x) refl
   where
     go : (y : Bool) → isDate x ≡ y → cond y (dayOf (dateOf x)) 0 < numbered
     go true e = in-time (dateOf x) (exists-parts (dateOf x) e)
     go false e = omega arith
 
-pub number-yes : (x : ℕ) → isDate x ≡ true → dayOf (dateOf x) ≡ numberOf x
-unfolding numberOf
+pub number-yes : (x : ℕ) → isDate x ≡ true → dayOf (dateOf x) ≡ dayNumber x
+unfolding dayNumber
 number-yes x h = rw h
 
-pub number-no : (x : ℕ) → isDate x ≡ false → 0 ≡ numberOf x
-unfolding numberOf
+pub number-no : (x : ℕ) → isDate x ≡ false → 0 ≡ dayNumber x
+unfolding dayNumber
 number-no x h = rw h
 
 -- ---- the claim

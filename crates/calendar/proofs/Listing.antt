@@ -1,6 +1,6 @@
 -- Lists of dates, one by one.
 use mathlib.Core.Path.{_≡_, refl, sym, ap, _∙_}
-use mathlib.Core.Bool.{Bool, true, false, false≢true, _&&_, _||_, and-true, and-assoc}
+use mathlib.Core.Bool.{Bool, true, false, false≢true, _&&_, _||_, and-true, and-false, and-assoc}
 use mathlib.Core.List.{List, [], _∷_, _++_, map, map-append, append-assoc}
 use Prim.Native.Nat.{ℕ, zero, suc, _+_, _-_, _≤_, _<_}
 use native.Mathlib.Numerals.{add-one, unary-clauses}
@@ -8,10 +8,10 @@ use native.Mathlib.Omega.{arith}
 use lib.Dec.{eqb, leb, ltb}
 use lib.ListN.{length, take, getD, replicate, set, length-map, length-take}
 use lib.Seq.{take-all, take-at, set-at, take-suc, getD-take, length-take-le}
-use borrow.Author.Tests.{lt-ltb, lt-leb, ne-eqb}
+use borrow.Author.Tests.{lt-ltb, lt-leb, le-ltb, ne-eqb}
 use Rattle.wire.specs.Parts.{all}
-use Rattle.wire.proofs.Tested.{all-more}
-use Rattle.calendar.specs.Calendar.{numbered, numberOf}
+use Rattle.wire.proofs.Tested.{all-not, all-more}
+use Rattle.calendar.specs.Calendar.{numbered, dayNumber}
 use Rattle.calendar.specs.Days.{above, rising}
 use Rattle.calendar.specs.Lists.{most, given, allDates, inOrder, keptDays, soundDays}
 use Rattle.calendar.proofs.Counting.{number-fits}
@@ -50,7 +50,35 @@ rising-more (x ∷ l) (suc i) h =
     let e : suc i - 1 ≡ i = omega arith in
     rw (ne-eqb (suc i) 0 (λ q. omega arith), e) (above-more x l i (omega arith))
 
+-- A list with a day that is not above the one before it does not rise.
+not-above : (p : ℕ) (l : List ℕ) (i : ℕ) → i < length l → getD l i 0 ≤ getD (p ∷ l) i 0 → above p l ≡ false
+unfolding above
+not-above p [] i h k = let z : ⊥ = omega arith in absurd z
+not-above p (x ∷ l) zero h k = rw (le-ltb _ _ k)
+not-above p (x ∷ l) (suc i) h k = rw (not-above x l i (omega arith) k) (and-false (ltb p x))
+
+pub falling : (l : List ℕ) (i : ℕ) → suc i < length l → getD l (suc i) 0 ≤ getD l i 0 → rising l ≡ false
+unfolding rising
+falling [] i h k = let z : ⊥ = omega arith in absurd z
+falling (x ∷ l) i h k = not-above x l i (omega arith) k
+
 -- ---- the test of a book's days
+
+-- Unsound are more than 64, a number that is no day's, and a pair that does not rise.
+pub too-many : (k : ℕ) (l : List ℕ) → 64 < k → soundDays k l ≡ false
+too-many k l h = rw (lt-leb _ _ h)
+
+pub too-late : (k : ℕ) (l : List ℕ) (i : ℕ) → i < k → i < length l → numbered ≤ getD l i 0 → soundDays k l ≡ false
+too-late k l i h n e =
+    let m : i < length (take k l) = rw (length-take k l) (omega arith) in
+    let b : ltb (getD (take k l) i 0) numbered ≡ false = le-ltb (getD (take k l) i 0) numbered (rw (getD-take k l i 0 h) e) in
+    rw (all-not (λ d. ltb d numbered) (take k l) i 0 m b) (and-false (leb k most && rising (take k l)))
+
+pub not-rising : (k : ℕ) (l : List ℕ) (i : ℕ) → suc i < k → suc i < length l → getD l (suc i) 0 ≤ getD l i 0 → soundDays k l ≡ false
+not-rising k l i h n e =
+    let m : suc i < length (take k l) = rw (length-take k l) (omega arith) in
+    let r = falling (take k l) i m (rw (getD-take k l (suc i) 0 h, getD-take k l i 0 (omega arith)) e) in
+    rw (r, and-false (leb k most))
 
 crossed : (c a b x y : Bool) → ((c && (a && b)) && (x && y)) ≡ (c && ((a && x) && (b && y)))
 crossed false a b x y = refl
@@ -92,27 +120,27 @@ module _ (days : List ℕ) (count : ℕ) (n : length days ≡ 64) (ok : Bool) (i
 
 -- ---- what a book keeps
 
-numbers-fit : (l : List ℕ) → all inTime (map numberOf l) ≡ true
+numbers-fit : (l : List ℕ) → all inTime (map dayNumber l) ≡ true
 numbers-fit [] = refl
 numbers-fit (x ∷ l) = rw (lt-ltb _ _ (number-fits x)) (numbers-fit l)
 
 -- The first of the kept days are those of the list, and sound where they rise.
-pub kept-list : (l : List ℕ) → take (length l) (keptDays l) ≡ map numberOf l
-kept-list l = take-at (map numberOf l) _ (length l) (length-map l numberOf)
+pub kept-list : (l : List ℕ) → take (length l) (keptDays l) ≡ map dayNumber l
+kept-list l = take-at (map dayNumber l) _ (length l) (length-map l dayNumber)
 
-pub kept-sound : (l : List ℕ) → soundDays (length l) (keptDays l) ≡ (leb (length l) most && rising (map numberOf l))
+pub kept-sound : (l : List ℕ) → soundDays (length l) (keptDays l) ≡ (leb (length l) most && rising (map dayNumber l))
 kept-sound l = rw (kept-list l, numbers-fit l) (and-true _)
 
 -- After i turns the first i are kept.
 abbrev pub Kept : List ℕ → ℕ → List ℕ
-Kept l i = map numberOf (take i l) ++ replicate (most - i) 0
+Kept l i = map dayNumber (take i l) ++ replicate (most - i) 0
 
-pub kept-more : (l : List ℕ) (i : ℕ) → length l ≤ 64 → i < length l → (x : ℕ) → x ≡ numberOf (getD l i 0) → set (Kept l i) i x ≡ Kept l (i + 1)
+pub kept-more : (l : List ℕ) (i : ℕ) → length l ≤ 64 → i < length l → (x : ℕ) → x ≡ dayNumber (getD l i 0) → set (Kept l i) i x ≡ Kept l (i + 1)
 kept-more l i h k x e =
-    let front = map numberOf (take i l) in
-    let n : length front ≡ i = length-map (take i l) numberOf ∙ length-take-le i l (omega arith) in
+    let front = map dayNumber (take i l) in
+    let n : length front ≡ i = length-map (take i l) dayNumber ∙ length-take-le i l (omega arith) in
     let m : most - i ≡ suc (most - (i + 1)) = omega arith in
-    let s : map numberOf (take (i + 1) l) ≡ front ++ x ∷ [] = rw (add-one, e, take-suc l i 0 k) (map-append numberOf (take i l) (getD l i 0 ∷ [])) in
+    let s : map dayNumber (take (i + 1) l) ≡ front ++ x ∷ [] = rw (add-one, e, take-suc l i 0 k) (map-append dayNumber (take i l) (getD l i 0 ∷ [])) in
     rw (m, s) (set-at front 0 _ x i n ∙ sym (append-assoc front (x ∷ []) _))
 
 pub kept-whole : (l : List ℕ) (i : ℕ) → i ≤ length l → length l ≤ i → Kept l i ≡ keptDays l

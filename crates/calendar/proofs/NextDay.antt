@@ -9,22 +9,11 @@ use lib.Dec.{eqb, leb, ltb}
 use lib.ListN.{length, take, drop, getD, length-take, drop-of-length-le}
 use lib.Seq.{drop-cons, getD-take}
 use borrow.Author.Tests.{eqb-true, eqb-false, eq-eqb, ne-eqb, ltb-true, ltb-false}
-use Rattle.wire.proofs.Laws.{and-both}
+use Rattle.wire.proofs.Laws.{and-both, clash, or-neither, or-right}
 use Rattle.calendar.specs.Days.{weekday, weekend, listed, shut, skip, past, nextOpen, above, rising, daySeconds, banked, NextOpen, BankedMeans}
-
-clash : {x : Bool} → x ≡ true → x ≡ false → ⊥
-clash p q = true≢false (sym p ∙ q)
-
-or-right : (a b : Bool) → b ≡ true → (a || b) ≡ true
-or-right true b h = refl
-or-right false b h = h
 
 or-left : (a b : Bool) → a ≡ true → (a || b) ≡ true
 or-left a b h = rw h
-
-or-neither : (a b : Bool) → (a || b) ≡ false → (a ≡ false) × (b ≡ false)
-or-neither true b h = absurd (true≢false h)
-or-neither false b h = (refl, h)
 
 saturday : (k : ℕ) → weekday k ≡ 6 → weekend k ≡ true
 unfolding weekend

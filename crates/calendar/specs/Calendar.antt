@@ -59,8 +59,8 @@ abbrev pub isDate : ℕ → Bool
 isDate x = exists (dateOf x)
 
 -- The number of its day; 0 where there is no such date.
-unfoldable pub numberOf : ℕ → ℕ
-numberOf x = cond (isDate x) (dayOf (dateOf x)) 0
+unfoldable pub dayNumber : ℕ → ℕ
+dayNumber x = cond (isDate x) (dayOf (dateOf x)) 0
 
 -- ---- the claim
 

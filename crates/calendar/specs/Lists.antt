@@ -5,7 +5,7 @@ use Prim.Native.Nat.{ℕ, _-_}
 use lib.ListN.{length, take, replicate}
 use lib.Dec.{leb, ltb}
 use Rattle.wire.specs.Parts.{all}
-use Rattle.calendar.specs.Calendar.{numbered, isDate, numberOf}
+use Rattle.calendar.specs.Calendar.{numbered, isDate, dayNumber}
 use Rattle.calendar.specs.Days.{rising}
 
 -- The longest list.
@@ -21,11 +21,11 @@ abbrev pub allDates : List ℕ → Bool
 allDates l = all isDate l
 
 abbrev pub inOrder : List ℕ → Bool
-inOrder l = leb (length l) most && rising (map numberOf l)
+inOrder l = leb (length l) most && rising (map dayNumber l)
 
 -- The day numbers that a book keeps, and zeros behind them.
 abbrev pub keptDays : List ℕ → List ℕ
-keptDays l = map numberOf l ++ replicate (most - length l) 0
+keptDays l = map dayNumber l ++ replicate (most - length l) 0
 
 -- The first k of a sound book's days are day numbers, and rise.
 abbrev pub soundDays : ℕ → List ℕ → Bool

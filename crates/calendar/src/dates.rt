@@ -2,7 +2,7 @@
 ghost use mathlib.Core.Path.{_≡_};
 ghost use mathlib.Core.Bool.{true};
 ghost use Prim.Native.Nat.{_-_, _+_, _≤_};
-ghost use Rattle.calendar.specs.Calendar.{leap, monthDays, before, since, numbered, isDate, numberOf};
+ghost use Rattle.calendar.specs.Calendar.{leap, monthDays, before, since, numbered, isDate, dayNumber};
 
 const LENGTHS: [u32; 13] = [0, 31, 28, 31, 30, 31, 30, 31, 31, 30, 31, 30, 31];
 
@@ -67,7 +67,7 @@ fn days_since(year: u32) -> u32
 
 // The number of a date's day; 0 where there is no such date.
 pub fn day_number(date: u32) -> u32
-    ensures { λ r. ⌜ r ≡ numberOf date ⌝ }
+    ensures { λ r. ⌜ r ≡ dayNumber date ⌝ }
 {
     if !is_date(date) {
         return 0;

@@ -1,4 +1,5 @@
 // 06 to 0A on one channel: how it is closed, and what each way pays. Only the product's own parts call it.
+use calendar::banked;
 use checks::ruled;
 use checks::secret_tested;
 use checks::signature_tested;
@@ -17,12 +18,12 @@ use wire::digest_at;
 use wire::u64_at;
 ghost use mathlib.Core.Path.{_≡_};
 ghost use mathlib.Core.Bool.{true};
-ghost use Prim.Native.Nat.{_+_, _≤_};
+ghost use Prim.Native.Nat.{_≤_};
 ghost use lib.ListN.{length};
 ghost use Rattle.sha256.specs.Digest.{sha256};
 ghost use Rattle.machine.specs.Format.{lock, secret, customerPart, merchantPart};
 ghost use Rattle.machine.specs.Book.{seconds, limit, remembered, soundChannel};
-ghost use Rattle.machine.specs.Rules.{mutualClose, closingLeaves, customerClose, merchantClose, dispute, settle};
+ghost use Rattle.machine.specs.Rules.{mutualClose, closingLeaves, closesAt, customerClose, merchantClose, dispute, settle};
 ghost use Rattle.machine.specs.Machine.{ruling, verdict};
 ghost use Rattle.machine.specs.Real.{lmsVerdict};
 
@@ -45,11 +46,17 @@ pub fn mutual_close(ch: Channel, at: Context, command: &[u8]) -> Ruled
     ruled(by_customer.judged, ch, after, customer, merchant)
 }
 
-fn deadline_from(clock: Seconds, delay: u32) -> Seconds
-    requires { ⌜ clock .0 ≤ limit ⌝ }
-    ensures { λ r. ⌜ r ≡ seconds (clock .0 + delay) ⌝ }
+// The clock and the channel's delay, moved to a day that is not shut.
+fn deadline_of(ch: Channel, at: Context) -> Seconds
+    requires { ⌜ at .clock .0 ≤ limit ⌝ }
+    ensures { λ r. ⌜ r ≡ seconds (closesAt at ch) ⌝ }
 {
-    Seconds(clock.0 + delay as u64)
+    let t = at.clock.0 + ch.delay as u64;
+    if at.setup.dated == 0 {
+        return Seconds(t);
+    }
+    let days = at.setup.days;
+    Seconds(banked(days, at.setup.count, t))
 }
 
 // What a channel remembers after a 07 with this leaf: the leaf of the 08 that it answers, if it answers one, and its own.
@@ -91,7 +98,7 @@ pub fn customer_close(ch: Channel, at: Context, command: &[u8]) -> Ruled
     let by_merchant = signature_tested(j, 11, merchant_key, id, command, 51, 51);
     let by_customer = signature_tested(by_merchant.judged, 12, customer_key, id, command, 51, 1503);
     let lock = digest_at(command, 3);
-    let deadline = deadline_from(at.clock, ch.delay);
+    let deadline = deadline_of(ch, at);
     let leaves = closing_leaves(ch, by_merchant.leaf);
     let mut after = ch;
     after.status = 5;
@@ -111,7 +118,7 @@ pub fn merchant_close(ch: Channel, at: Context, command: &[u8]) -> Ruled
     let id = at.id;
     let j = tested(unjudged(), 5, ch.status == 3);
     let by_merchant = signature_tested(j, 11, key, id, command, 3, 3);
-    let deadline = deadline_from(at.clock, ch.delay);
+    let deadline = deadline_of(ch, at);
     let leaves = Leaves {
         first: by_merchant.leaf,
         second: by_merchant.leaf,

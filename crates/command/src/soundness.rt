@@ -1,4 +1,5 @@
 // Whether a book is sound: any values may stand in a lent one.
+use calendar::sound_days;
 use fees::fee_fits;
 use holdings::delay_fits;
 use holdings::sound_channel;
@@ -16,7 +17,11 @@ ghost use Rattle.machine.specs.Book.{limit, theMark, soundSetup, sound};
 fn sound_setup(setup: Setup) -> bool
     ensures { λ r. ⌜ r ≡ soundSetup setup ⌝ }
 {
-    delay_fits(setup.delay as u64) & fee_fits(setup.fee)
+    let days = setup.days;
+    delay_fits(setup.delay as u64)
+        & fee_fits(setup.fee)
+        & (setup.dated <= 1)
+        & sound_days(days, setup.count)
 }
 
 // What is asked of the book beside its channels.

@@ -8,8 +8,7 @@ use lib.Dec.{leb, eqb}
 use Rattle.machine.specs.Book.{cents, limit, agreed, soundTerms, soundChannel}
 use Rattle.machine.specs.declared.units.Cents.{Cents}
 use Rattle.machine.specs.declared.state.Channel.{Channel}
-use Rattle.wire.proofs.Laws.{and-both}
-use Rattle.machine.proofs.Laws.{or-other}
+use Rattle.wire.proofs.Laws.{and-both, or-other}
 
 same-bool : (x y : Bool) → (x ≡ true → y ≡ true) → (y ≡ true → x ≡ true) → x ≡ y
 same-bool true y f g = sym (f refl)

@@ -7,12 +7,14 @@ use native.Mathlib.Omega.{arith}
 use borrow.Author.Tests.{eqb-false}
 use Rattle.wire.specs.Numbers.{u16At, u32At, u64At}
 use Rattle.wire.specs.Parts.{same}
+use Rattle.calendar.specs.Calendar.{leap, monthDays, before, since, dayNumber}
+use Rattle.calendar.specs.Days.{weekend, listed, above, rising, skip, past, nextOpen, banked}
 use Rattle.machine.specs.Format.{size, message}
 use Rattle.machine.specs.Book.{total, held, soundChannel, sound, readChannel, reading}
 use Rattle.machine.specs.Checks.{ask}
 use Rattle.machine.specs.Opening.{blankBook, fresh, opening}
 use Rattle.machine.specs.Fee.{feeOf, charged}
-use Rattle.machine.specs.Rules.{delayed, keyed, establish, fundCustomer, fundMerchant, reclaim, mutualClose, customerClose, merchantClose, dispute, settle}
+use Rattle.machine.specs.Rules.{delayed, keyed, answerableAt, establish, fundCustomer, fundMerchant, reclaim, mutualClose, customerClose, merchantClose, dispute, settle}
 use Rattle.machine.specs.Machine.{answer, concluded, ruling, verdict, plan, step}
 use Rattle.ledger.specs.Ledger.{Shares, shares, nothing, paidBy, entryAt, clock, strings, sum, opcodes, member, has, eventOf, paid, byMerchant, after, Accounted}
 use Rattle.ledger.proofs.Reached.{yes, plain, opens, list, disputes, standing}
@@ -23,7 +25,7 @@ abbrev AccountedAt : List (List ℕ) → ℕ → Type 0
 AccountedAt l n = Accounted yes plain opens ((standing l) .book) ((standing l) .history) n (strings n ((standing l) .history))
 
 accounted : (l : List (List ℕ)) (n : ℕ) → n < 64 → AccountedAt l n
-unfolding opening ask standing
+unfolding opening ask standing leap monthDays before since dayNumber above rising
 accounted l n p = third-demand yes plain blankBook opens refl l n p
 
 abbrev parts : ℕ → ℕ → Shares
@@ -56,7 +58,7 @@ record Applied : Type 0 where
   timed : paidBy ((entryAt ((standing list) .history) 16) .answer) ≡ nothing
 
 applied : Applied
-unfolding yes plain standing u16At u32At u64At same size message total held soundChannel sound fresh readChannel reading ask delayed keyed establish fundCustomer fundMerchant reclaim mutualClose customerClose merchantClose dispute settle answer concluded ruling verdict plan charged step after clock strings opcodes member eventOf sum
+unfolding yes plain standing u16At u32At u64At same size message total held soundChannel sound fresh readChannel reading ask delayed keyed leap monthDays before since dayNumber weekend listed above rising skip past nextOpen banked answerableAt establish fundCustomer fundMerchant reclaim mutualClose customerClose merchantClose dispute settle answer concluded ruling verdict plan charged step after clock strings opcodes member eventOf sum
 applied =
     let before = accounted list 5 (omega arith) in
     let after = accounted (list ++ disputes 5 8 ∷ []) 5 (omega arith) in

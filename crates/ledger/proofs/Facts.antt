@@ -9,8 +9,7 @@ use borrow.Author.Tests.{le-leb}
 use Rattle.machine.specs.Book.{agreed, total, held, soundTerms, soundChannel}
 use Rattle.ledger.specs.Ledger.{Event, deposits, sum, opcodes, member, has, eventOf, closed, closings, shares, paid, allMerchant, split, Unspent}
 use Rattle.machine.specs.declared.state.Channel.{Channel}
-use Rattle.wire.proofs.Laws.{and-make}
-use Rattle.machine.proofs.Laws.{clash, or-right}
+use Rattle.wire.proofs.Laws.{and-make, clash, or-right}
 use Rattle.ledger.proofs.Life.{Basis, leafIn, Signed, Lacks, unclosed, unanswered, running, unmatched, unfunded, TermsOf, Live, Leaving, StageAt}
 use Rattle.ledger.proofs.Moves.{fewer, lacks-none, signed-none, tally-none, total-at, held-at}
 

@@ -8,7 +8,7 @@ use borrow.Author.Tests.{eqb-false, ne-eqb}
 use Rattle.machine.specs.Book.{remembered}
 use Rattle.ledger.specs.Ledger.{Event, has, eventOf, Unspent}
 use Rattle.machine.specs.declared.state.Channel.{Channel}
-use Rattle.machine.proofs.Laws.{or-neither}
+use Rattle.wire.proofs.Laws.{or-neither}
 use Rattle.ledger.proofs.Life.{Remembers}
 
 module _ (leaf : ℕ → List ℕ → ℕ) (l : List Event) (c : Channel) (m : Remembers leaf l (c .leaves .first) (c .leaves .second)) (d : List ℕ) where

@@ -6,7 +6,7 @@ use Prim.Native.Nat.{ℕ, _+_, _≤_, _<_}
 use lib.ListN.{getD}
 use Rattle.machine.specs.Format.{customerDeposit, merchantDeposit, delay, customerPart, merchantPart, lock, merchantKey}
 use Rattle.machine.specs.Book.{limit, shortest, longest, agreed}
-use Rattle.machine.specs.Rules.{delayed}
+use Rattle.machine.specs.Rules.{delayed, answerableAt}
 use Rattle.ledger.specs.Ledger.{Event, deposits, member, has, eventOf, closed, closings, shares, paid, allMerchant, split, oneSided, Unspent}
 use Rattle.machine.specs.declared.state.Channel.{Channel}
 use Rattle.machine.specs.declared.state.Setup.{Setup}
@@ -69,14 +69,14 @@ pub record Money (l : List Event) (in′ customer merchant : ℕ) : Type 0 where
   pub toMerchant : (shares (paid l)) .merchant ≡ merchant
 
 -- It keeps what the accepted 07 says.
-pub record Closing (e : Event) (kept total deadline wait : ℕ) (locked : List ℕ) : Type 0 where
+pub record Closing (x : Basis) (e : Event) (kept total deadline wait : ℕ) (locked : List ℕ) : Type 0 where
   pub part : kept ≡ customerPart 7 (e .string)
   pub whole : kept + merchantPart 7 (e .string) ≡ total
   pub lock′ : locked ≡ lock (e .string)
-  pub due : deadline ≡ e .clock + wait
+  pub due : deadline ≡ answerableAt (x .setup) (e .clock + wait)
 
-abbrev pub ClosingOf : List Event → Channel → Type 0
-ClosingOf l c = Closing (eventOf 7 l) (c .kept .0) (agreed c) (c .deadline .0) (c .delay) (c .lock)
+abbrev pub ClosingOf : Basis → List Event → Channel → Type 0
+ClosingOf x l c = Closing x (eventOf 7 l) (c .kept .0) (agreed c) (c .deadline .0) (c .delay) (c .lock)
 
 -- It remembers the leaf of the accepted 08, or of the 07 where there is none, and that of the 07.
 pub record Remembers (leaf : ℕ → List ℕ → ℕ) (l : List Event) (first second : ℕ) : Type 0 where
@@ -104,7 +104,7 @@ pub record Leaving (x : Basis) (l : List Event) (c : Channel) : Type 0 where
   pub terms : TermsOf x l c
   pub lacks : Lacks unclosed l
   pub begun : has 7 l ≡ true
-  pub closing : ClosingOf l c
+  pub closing : ClosingOf x l c
   pub leaves : RemembersOf x l c
   pub signed : Signed (x .good) l
   pub money : Money l (agreed c) 0 (merchantPart 7 ((eventOf 7 l) .string))

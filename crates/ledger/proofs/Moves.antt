@@ -10,14 +10,14 @@ use Rattle.machine.specs.Checks.{Verdict}
 use Rattle.machine.specs.Format.{opcode, amount, customerDeposit, merchantDeposit, delay, customerPart, merchantPart, lock, merchantKey, signatures}
 use Rattle.machine.specs.Book.{limit, shortest, longest, ranged, agreed, total, held, remembered, soundSetup}
 use Rattle.machine.specs.Book as book
-use Rattle.machine.specs.Rules.{Plan, moved, become, delayed, delayFits, established, establish, fundCustomer, fundMerchant, reclaim, mutualClose, customerClose, merchantClose, dispute, settle}
+use Rattle.machine.specs.Rules.{Plan, moved, become, delayed, delayFits, answerableAt, closesAt, established, establish, fundCustomer, fundMerchant, reclaim, mutualClose, customerClose, merchantClose, dispute, settle}
 use Rattle.machine.specs.Machine.{customerOf, merchantOf, verdict, plan}
 use Rattle.ledger.specs.Ledger.{Event, paidBy, deposits, sum, opcodes, member, tally, has, count, eventOf, closings, agreedCustomer, agreedTotal, shares, paid, allMerchant, split, oneSided, Unspent}
 use Rattle.machine.specs.declared.state.Channel.{Channel}
 use Rattle.machine.specs.declared.state.Context.{Context}
 use Rattle.machine.specs.declared.answers.Answer.{Answer}
-use Rattle.wire.proofs.Laws.{and-both}
-use Rattle.machine.proofs.Laws.{clash, in-range, setup-limits, or-neither, or-other, or-right}
+use Rattle.wire.proofs.Laws.{and-both, clash, or-neither, or-other, or-right}
+use Rattle.machine.proofs.Laws.{in-range, setup-limits}
 use Rattle.machine.proofs.Judging.{Passed}
 use Rattle.ledger.proofs.Leaves.{unspent}
 use Rattle.ledger.proofs.Life.{Basis, leafIn, Signed, Lacks, unclosed, unanswered, running, unmatched, unfunded, TermsOf, Money, Live, Waiting, Leaving, Over, StageAt, Stage}
@@ -259,7 +259,7 @@ module _ (l : List Event) (s : List ℕ) (a : Answer) (k : ℕ) where
         first x = cond x (v .leaf) (c .leaves .first)
 
         close : (x : Bool) → Live basis unanswered (agreed c) l c → Signed good l → total c ≡ agreed c → first x ≡ cond (has 8 l) (leafIn basis l 8 ((eventOf 8 l) .string)) (v .leaf)
-            → Leaving basis (next ∷ l) (moved c 5 (at .clock .0 + c .delay) (customerPart 7 s) (lock s) (book.leaves (first x) (v .leaf))) × (has 7 l ≡ false)
+            → Leaving basis (next ∷ l) (moved c 5 (closesAt at c) (customerPart 7 s) (lock s) (book.leaves (first x) (v .leaf))) × (has 7 l ≡ false)
         close x g′ w′ q r =
             let f = eqb-true (customerPart 7 s + merchantPart 7 s) (total c) (p .1 .0) in
             let n = event-next 7 (rw o) in
@@ -268,7 +268,7 @@ module _ (l : List Event) (s : List ℕ) (a : Answer) (k : ℕ) where
                 terms = terms-on (rw o) (g′ .terms);
                 lacks = lacks-on unclosed (rw o) (fewer 7 unclosed l (g′ .lacks));
                 begun = rw o;
-                closing = rw n (record { part = refl; whole = omega arith; lock′ = refl; due = omega arith });
+                closing = rw n (record { part = refl; whole = omega arith; lock′ = refl; due = ap (λ (t : ℕ). answerableAt (at .setup) (t + c .delay)) (sym same) });
                 leaves = rw (event-skip 2 (rw o)) (record { of-08 = rw (o, event-skip 8 (rw o), n) (r ∙ ap (cond (has 8 l) _) u); of-07 = rw n u });
                 signed = signed-by 7 v o refl (g′ .terms) told (p .1 .1 .1 .0) w′;
                 money = rw n (omega (arith, no-funds (rw o), pays-customer, pays-merchant));
@@ -276,7 +276,7 @@ module _ (l : List Event) (s : List ℕ) (a : Answer) (k : ℕ) where
               g′ .lacks 7 refl,
             )
 
-        go : (x : Bool) → eqb (c .status) 3 ≡ x → Leaving basis (next ∷ l) (moved c 5 (at .clock .0 + c .delay) (customerPart 7 s) (lock s) (book.leaves (first x) (v .leaf))) × (has 7 l ≡ false)
+        go : (x : Bool) → eqb (c .status) 3 ≡ x → Leaving basis (next ∷ l) (moved c 5 (closesAt at c) (customerPart 7 s) (lock s) (book.leaves (first x) (v .leaf))) × (has 7 l ≡ false)
         go true z =
             let h : Live basis running (agreed c) l c = found 3 z g in
             close true (record { terms = h .terms; lacks = fewer 8 unanswered l (h .lacks); money = h .money }) (signed-none good l (h .lacks)) (total-at c 2 (eqb-true (c .status) 3 z)) (rw (h .lacks 8 refl))

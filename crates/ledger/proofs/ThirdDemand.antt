@@ -2,7 +2,7 @@
 use mathlib.Core.Path.{_≡_, refl, sym, ap, subst, _∙_}
 use mathlib.Core.Bool.{Bool, true, false, cond, not, _&&_}
 use mathlib.Core.List.{List, [], _∷_}
-use Prim.Native.Nat.{ℕ, zero, suc, _≤_, _<_}
+use Prim.Native.Nat.{ℕ, zero, suc, _+_, _≤_, _<_}
 use native.Mathlib.Omega.{arith}
 use lib.ListN.{length, getD, set, length-set, length-replicate, getD-replicate}
 use lib.Seq.{getD-set-same, getD-set-other}
@@ -15,9 +15,9 @@ use Rattle.machine.specs.Format.{opcode, size, time, place, delay, signatures, 
 use Rattle.wire.specs.Parts.{all}
 use Rattle.machine.specs.Book.{cents, limit, highest, theMark, soundChannel, soundSetup, sound, remembered, noChannel, channel, reading, readChannel}
 use Rattle.machine.specs.Checks.{Check, Verdict, clean, passed, judge}
-use Rattle.machine.specs.Opening.{Opening, openingChecks, setupOf, unused, fresh, opening}
+use Rattle.machine.specs.Opening.{Opening, datesOf, openingChecks, setupOf, unused, fresh, opening}
 use Rattle.machine.specs.Fee.{charged}
-use Rattle.machine.specs.Rules.{Payment, pay, delayed, establish, fundCustomer, fundMerchant, reclaim, mutualClose, customerClose, merchantClose, dispute, settle}
+use Rattle.machine.specs.Rules.{Payment, pay, delayed, answerableAt, establish, fundCustomer, fundMerchant, reclaim, mutualClose, customerClose, merchantClose, dispute, settle}
 use Rattle.machine.specs.Machine.{answer, Order, setClock, onChannel, shared, carried, contextOf, plans, plan, noPlan, planned, order, verdict, step}
 use Rattle.machine.specs.Real.{lmsVerdict}
 use Rattle.ledger.specs.Ledger.{Entry, Event, accepted, ofChannel, clock, strings, ofNone, paidBy, nothing, Divided, entryAt, opcodes, member, tally, has, eventOf, oneSided, Timely, Standing, recorded, after, leafOf, Disputes, Accounted, ThirdDemand}
@@ -27,8 +27,9 @@ use Rattle.machine.specs.declared.state.Book.{Book}
 use Rattle.machine.specs.declared.answers.Answer.{Answer}
 use Rattle.machine.specs.declared.answers.Judged.{Judged}
 use Rattle.machine.specs.declared.answers.Stepped.{Stepped}
-use Rattle.wire.proofs.Laws.{and-both, and-make, same-refl}
-use Rattle.machine.proofs.Laws.{clash, setup-limits}
+use Rattle.wire.proofs.Laws.{and-both, and-make, same-refl, clash}
+use Rattle.calendar.proofs.Listing.{kept-sound}
+use Rattle.machine.proofs.Laws.{setup-limits, opening-moves}
 use Rattle.machine.proofs.Fees.{charged-whole, charged-divided, free}
 use Rattle.machine.proofs.Judging.{Passed, coded, judge-passed, passed-judge}
 use Rattle.machine.proofs.Plans.{each-plan}
@@ -80,7 +81,7 @@ basisOf check b = record {
 record Agrees (check : List ℕ → List ℕ → List ℕ → Verdict) (o : Opening) (t : Standing) : Type 0 where
   mark : t .book .mark ≡ theMark
   same : t .book .id ≡ o .id
-  setup : t .book .setup ≡ setupOf (o .settings)
+  setup : t .book .setup ≡ setupOf o
   fixed : soundSetup (t .book .setup) ≡ true
   now : t .book .clock .0 ≡ clock (t .history)
   early : t .book .clock .0 ≤ limit
@@ -241,7 +242,7 @@ module _ (check : List ℕ → List ℕ → List ℕ → Verdict) (o : Opening) 
 
 -- ---- from the opening on
 
-fresh-agrees : (check : List ℕ → List ℕ → List ℕ → Verdict) (o : Opening) → soundSetup (setupOf (o .settings)) ≡ true → Agrees check o (record { book = fresh o; history = [] })
+fresh-agrees : (check : List ℕ → List ℕ → List ℕ → Verdict) (o : Opening) → soundSetup (setupOf o) ≡ true → Agrees check o (record { book = fresh o; history = [] })
 unfolding fresh strings clock opcodes tally
 fresh-agrees check o e = record {
   mark = refl;
@@ -269,7 +270,13 @@ module _ (check : List ℕ → List ℕ → List ℕ → Verdict) (hash : List �
     dispute-passes w d v =
         let m = (facts check o t i n p) .timely (w .closing) (w .undisputed) (w .unsettled) in
         let c = channel (t .book) n in
-        let early : t .book .clock .0 < c .deadline .0 = omega (arith, m .1 .closing .due, m .1 .terms .delays ∙ ap (λ (x : Setup). delayed (x .delay) (delay ((eventOf 2 (strings n (t .history))) .string))) (i .setup), w .early, i .now) in
+        let from = (eventOf 7 (strings n (t .history))) .clock in
+        let agreed : Setup → ℕ = λ (x : Setup). delayed (x .delay) (delay ((eventOf 2 (strings n (t .history))) .string)) in
+        let due = m .1 .closing .due
+            ∙ ap (λ (wait : ℕ). answerableAt (t .book .setup) (from + wait)) (m .1 .terms .delays)
+            ∙ ap (λ (x : Setup). answerableAt x (from + agreed x)) (i .setup)
+            ∙ opening-moves o (from + agreed (setupOf o)) in
+        let early : t .book .clock .0 < c .deadline .0 = omega (arith, due, w .early, i .now) in
         let free : remembered (leafOf check o (strings n (t .history)) 9 d) c ≡ false = unremembered (leafOf check o (strings n (t .history))) (strings n (t .history)) c (rw (i .same) at (m .1 .leaves)) d (v .unspent) in
         rw (v .code, v .named) (sound-book check o t i, (refl, (eq-eqb (length d) (size 9) (v .whole), (lt-ltb n 64 p, (eq-eqb (c .status) 5 (m .0), (lt-ltb _ _ early, (rw (v .opens, m .1 .closing .lock′) (same-refl _), (rw (i .same, m .1 .terms .signer) (v .good), (rw (i .same, m .1 .terms .signer) (ap not free), tt)))))))))
 
@@ -297,9 +304,15 @@ module _ (check : List ℕ → List ℕ → List ℕ → Verdict) (hash : List �
         }
 
 -- An accepted opening: the book is fresh, and what it keeps is in its limits.
-opened : (lent : Book) (o : Opening) → (opening lent o) .refusal ≡ 0 → ((opening lent o) .book ≡ fresh o) × (soundSetup (setupOf (o .settings)) ≡ true)
+opened : (lent : Book) (o : Opening) → (opening lent o) .refusal ≡ 0 → ((opening lent o) .book ≡ fresh o) × (soundSetup (setupOf o) ≡ true)
 unfolding opening
-opened lent o e = let p = judge-passed (openingChecks o) clean refl e in (rw (eq-eqb _ _ e), and-make (p .1 .1 .0) (p .1 .1 .1 .0))
+opened lent o e =
+    let p = judge-passed (openingChecks o) clean refl e in
+    (rw (eq-eqb _ _ e), and-make (and-make (and-make (p .1 .1 .0) (p .1 .1 .1 .0)) (flag (o .settings .dated))) (kept-sound (datesOf o) ∙ p .1 .1 .1 .1 .1 .0))
+  where
+    flag : (x : Bool) → leb (cond x 1 0) 1 ≡ true
+    flag true = refl
+    flag false = refl
 
 pub third-demand : (check : List ℕ → List ℕ → List ℕ → Verdict) (hash : List ℕ → List ℕ) → ThirdDemand check hash
 third-demand check hash lent o e l n p =

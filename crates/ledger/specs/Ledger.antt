@@ -1,5 +1,5 @@
--- Document 01, "What a closed channel paid" and the mission's third demand, with document 02, No. 1, No. 5 and No. 7: its words, read from the
--- opening, the strings and their answers, and the one claim about the whole list.
+-- Document 01, "What a closed channel paid" and the mission's third demand, with document 02, No. 1, No. 5, No. 7 and No. 8: its words, read from
+-- the opening, the strings and their answers, and the one claim about the whole list.
 use mathlib.Core.Path.{_≡_}
 use mathlib.Core.Bool.{Bool, true, false, cond, not, _&&_, _||_}
 use mathlib.Core.List.{List, [], _∷_}
@@ -8,7 +8,7 @@ use lib.ListN.{length, getD}
 use lib.Dec.{eqb, leb, ltb}
 use Rattle.machine.specs.Format.{opcode, size, time, place, amount, customerDeposit, merchantDeposit, delay, customerPart, merchantPart, lock, merchantKey, secret, signatures, signature, message}
 use Rattle.machine.specs.Book.{reading}
-use Rattle.machine.specs.Opening.{Opening, opening}
+use Rattle.machine.specs.Opening.{Opening, answerableBy, opening}
 use Rattle.machine.specs.Checks.{Verdict}
 use Rattle.machine.specs.Rules.{delayed}
 use Rattle.machine.specs.Fee.{feeOf}
@@ -163,12 +163,13 @@ split l =
 abbrev pub Divided : ℕ → Paid → Type 0
 Divided r p = p .fee ≡ feeOf r ((shares p) .merchant)
 
--- A customer's closing is before its deadline: an accepted 07, no accepted 09 or 0A, and the clock after the list is early.
+-- A customer's closing is before its deadline, moved by the dates that the opening gave: an accepted 07, no accepted 09 or 0A, and the clock
+-- after the list is early.
 pub record Timely (o : Opening) (l : List Event) (now : ℕ) : Type 0 where
   pub closing : has 7 l ≡ true
   pub undisputed : has 9 l ≡ false
   pub unsettled : has 10 l ≡ false
-  pub early : now < (eventOf 7 l) .clock + agreedDelay o l
+  pub early : now < answerableBy o ((eventOf 7 l) .clock + agreedDelay o l)
 
 -- The commands of one side's closing that the merchant signs.
 abbrev pub oneSided : List ℕ

@@ -12,8 +12,7 @@ use Rattle.machine.specs.Due.{sooner, soonest, Due, number, none, due, F
 use Rattle.machine.specs.declared.state.Book.{Book}
 use Rattle.machine.specs.declared.state.Channel.{Channel}
 use Rattle.machine.specs.declared.answers.Soonest.{Soonest}
-use Rattle.wire.proofs.Laws.{and-both}
-use Rattle.machine.proofs.Laws.{clash}
+use Rattle.wire.proofs.Laws.{and-both, clash}
 
 abbrev at : List Channel → ℕ → Channel
 at l i = getD l i noChannel

@@ -1,34 +1,26 @@
 -- Laws of truth values, of what a sound book tells beside its channels, and of equal byte strings.
-use mathlib.Core.Path.{_≡_, refl, sym, _∙_}
-use mathlib.Core.Bool.{Bool, true, false, true≢false, false≢true, _&&_, _||_}
-use mathlib.Core.List.{List, [], _∷_}
+use mathlib.Core.Path.{_≡_, refl}
+use mathlib.Core.Bool.{Bool, cond, true, false, false≢true, _&&_}
+use mathlib.Core.List.{List, [], _∷_, map}
 use Prim.Native.Nat.{ℕ, _≤_}
+use lib.ListN.{length, take}
 use lib.Dec.{eqb, leb}
-use borrow.Author.Tests.{eqb-true, leb-true}
+use borrow.Author.Tests.{eqb-true, leb-true, eq-eqb, ne-eqb}
 use Rattle.wire.specs.Parts.{same, all}
+use Rattle.calendar.specs.Calendar.{dayNumber}
+use Rattle.calendar.specs.Days.{banked}
+use Rattle.calendar.specs.Lists.{given, keptDays, soundDays}
+use Rattle.calendar.proofs.Listing.{kept-list}
 use Rattle.machine.specs.Book.{limit, shortest, longest, ranged, highest, theMark, soundChannel, soundSetup, sound}
+use Rattle.machine.specs.Opening.{Opening, answerableBy, setupOf}
+use Rattle.machine.specs.Rules.{answerableAt}
 use Rattle.machine.specs.declared.state.Setup.{Setup}
 use Rattle.machine.specs.declared.state.Book.{Book}
 use Rattle.wire.proofs.Laws.{and-both}
 
-pub clash : {x : Bool} → x ≡ true → x ≡ false → ⊥
-clash p q = true≢false (sym p ∙ q)
-
 pub and-middle : (a b c : Bool) → b ≡ false → (a && b && c) ≡ false
 and-middle true b c h = rw h
 and-middle false b c h = refl
-
-pub or-neither : (a b : Bool) → (a || b) ≡ false → (a ≡ false) × (b ≡ false)
-or-neither true b h = absurd (true≢false h)
-or-neither false b h = (refl, h)
-
-pub or-other : (a b : Bool) → (a || b) ≡ true → a ≡ false → b ≡ true
-or-other true b h n = absurd (true≢false n)
-or-other false b h n = h
-
-pub or-right : (a b : Bool) → b ≡ true → (a || b) ≡ true
-or-right true b h = refl
-or-right false b h = h
 
 -- What the test of a delay tells.
 pub in-range : (d : ℕ) → ranged d ≡ true → (shortest ≤ d) × (d ≤ longest)
@@ -36,7 +28,30 @@ in-range d h = let p = and-both (leb shortest d) (leb d longest) h in (leb-true 
 
 -- What a sound setup tells of the default and of the fee.
 pub setup-limits : (s : Setup) → soundSetup s ≡ true → (ranged (s .delay) ≡ true) × (s .fee ≤ highest)
-setup-limits s h = let p = and-both (ranged (s .delay)) (leb (s .fee) highest) h in (p .0, leb-true _ _ (p .1))
+setup-limits s h =
+    let d = and-both _ (soundDays (s .count) (s .days)) h in
+    let f = and-both _ (leb (s .dated) 1) (d .0) in
+    let p = and-both (ranged (s .delay)) (leb (s .fee) highest) (f .0) in
+    (p .0, leb-true _ _ (p .1))
+
+-- A deadline of a book without a list, and of one with it, as the code takes them.
+module _ (s : Setup) (t : ℕ) where
+  pub unlisted : s .dated ≡ 0 → t ≡ answerableAt s t
+  unfolding answerableAt
+  unlisted h = rw (eq-eqb _ _ h)
+
+  pub listed : (s .dated ≡ 0 → ⊥) → banked (take (s .count) (s .days)) t ≡ answerableAt s t
+  unfolding answerableAt
+  listed h = rw (ne-eqb _ _ h)
+
+-- The deadlines of a book just opened are moved by the dates that were given.
+pub opening-moves : (o : Opening) (t : ℕ) → answerableAt (setupOf o) t ≡ answerableBy o t
+unfolding answerableAt
+opening-moves o t = go (o .settings .dated)
+  where
+    go : (x : Bool) → cond (eqb (cond x 1 0) 0) t (banked (take (length (given x (o .dates))) (keptDays (given x (o .dates)))) t) ≡ cond x (banked (map dayNumber (o .dates)) t) t
+    go true = rw (kept-list (o .dates))
+    go false = refl
 
 -- What is asked of the book beside its channels.
 abbrev pub header : Book → Bool

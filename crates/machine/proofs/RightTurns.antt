@@ -1,33 +1,39 @@
 -- The sentences that are easy to misread hold.
 use mathlib.Core.Path.{_≡_, refl, sym, ap, _∙_}
 use mathlib.Core.Bool.{Bool, true, false, cond, _&&_, or-true, and-false}
-use mathlib.Core.List.{List, [], _∷_}
+use mathlib.Core.List.{List, [], _∷_, map}
 use Prim.Native.Nat.{ℕ, zero, suc, _+_, _≤_, _<_}
 use native.Mathlib.Nat.{sub-add-cancel}
 use native.Mathlib.Omega.{arith}
 use lib.Dec.{eqb, leb}
-use lib.ListN.{getD, drop}
+use lib.ListN.{length, getD, drop, length-map, List·getD-map}
 use borrow.Author.Tests.{eq-eqb, ne-eqb, eqb-false, le-leb, lt-leb, lt-ltb}
+use Rattle.calendar.specs.Calendar.{isDate, dayNumber}
+use Rattle.calendar.specs.Days as Days
+use Rattle.calendar.specs.Lists.{allDates, inOrder, soundDays}
+use Rattle.calendar.proofs.Listing.{falling, too-many, too-late, not-rising}
 use Rattle.lms.specs.Layout.{typedKey}
 use Rattle.machine.specs.Format.{opcode, time, place}
 use Rattle.wire.specs.Parts.{all}
 use Rattle.machine.specs.Book.{limit, ranged, layout, markOf, theMark, soundChannel, soundSetup, sound, total, readChannel, reading, channel}
 use Rattle.machine.specs.Checks.{Check, test, Verdict, clean, ask, judge}
-use Rattle.machine.specs.Opening.{Opening, fresh, opening}
+use Rattle.machine.specs.Opening.{Opening, datesOf, fresh, opening}
 use Rattle.machine.specs.Due.{due}
 use Rattle.machine.specs.Fee.{charged}
-use Rattle.machine.specs.Rules.{delayed, keyed, delayFits, depositsFit, establish, fundCustomer, fundMerchant, reclaim, mutualClose, customerClose, merchantClose, dispute, settle}
+use Rattle.machine.specs.Rules.{delayed, keyed, answerableAt, delayFits, depositsFit, establish, fundCustomer, fundMerchant, reclaim, mutualClose, customerClose, merchantClose, dispute, settle}
 use Rattle.machine.specs.Machine.{answer, concluded, ruling, Order, setClock, onChannel, formed, shared, carried, contextOf, noPlan, plans, plan, order, step}
-use Rattle.machine.specs.WrongTurns.{refusal, answered, rising, Keys, DisputesByLeaf, notOpened, Opens, Divides, Unsound, WrongTurns}
+use Rattle.machine.specs.WrongTurns.{refusal, answered, rising, Keys, DisputesByLeaf, notOpened, opened, OpensDated, Opens, Divides, Unsound, WrongTurns}
 use Rattle.machine.specs.declared.state.Party.{Party}
 use Rattle.machine.specs.declared.state.Channel.{Channel}
 use Rattle.machine.specs.declared.state.Context.{Context}
 use Rattle.machine.specs.declared.state.Book.{Book}
 use Rattle.machine.specs.declared.answers.Answer.{Answer}
 use Rattle.machine.specs.declared.answers.Judged.{Judged}
+use Rattle.machine.specs.declared.answers.Opened.{Opened}
 use Rattle.machine.specs.declared.answers.Stepped.{Stepped}
 use Rattle.wire.proofs.Laws.{same-refl}
-use Rattle.machine.proofs.Laws.{and-middle, setup-limits, sound-context, same-ne}
+use Rattle.wire.proofs.Tested.{all-not}
+use Rattle.machine.proofs.Laws.{and-middle, setup-limits, unlisted, opening-moves, sound-context, same-ne}
 use Rattle.machine.proofs.Fees.{fee-below, free}
 use Rattle.machine.proofs.Judging.{judge-stop}
 use Rattle.machine.proofs.Plans.{each-plan}
@@ -58,20 +64,55 @@ above-range d h = go (leb 3600 d)
 
 -- ---- an opening
 
+-- What an opening's checks make, by what each of them says.
+abbrev made : Book → Opening → Bool → Bool → Bool → Bool → Bool → Opened
+made lent o id default fee dates order =
+    let j = judge clean (test 2 id ∷ test 14 default ∷ test 20 fee ∷ test 21 dates ∷ test 22 order ∷ []) in
+    record { book = cond (eqb (j .refusal) 0) (fresh o) lent; refusal = j .refusal }
+
+-- The id, the default and the fee are good.
+module _ (lent : Book) (o : Opening) (e : length (o .id) ≡ 16) (h : 3600 ≤ o .settings .delay) (k : o .settings .delay ≤ 2592000) (f : o .settings .fee ≤ 1000) where
+  judged : (x y : Bool) → allDates (datesOf o) ≡ x → inOrder (datesOf o) ≡ y → opening lent o ≡ cond x (cond y (opened o) (notOpened lent 22)) (notOpened lent 21)
+  unfolding opening ask
+  judged x y p q = rw (eq-eqb _ _ e, le-leb _ _ h, le-leb _ _ k, le-leb _ _ f, p, q) (go x y)
+    where
+      go : (x y : Bool) → made lent o true true true x y ≡ cond x (cond y (opened o) (notOpened lent 22)) (notOpened lent 21)
+      go true true = refl
+      go true false = refl
+      go false y = refl
+
+  unordered : (i : ℕ) → suc i < length (o .dates) → dayNumber (getD (o .dates) (suc i) 0) ≤ dayNumber (getD (o .dates) i 0) → inOrder (o .dates) ≡ false
+  unfolding dayNumber
+  unordered i n b =
+      let m : suc i < length (map dayNumber (o .dates)) = rw (length-map (o .dates) dayNumber) n in
+      let at : (j : ℕ) → getD (map dayNumber (o .dates)) j 0 ≡ dayNumber (getD (o .dates) j 0) = λ j. List·getD-map dayNumber (o .dates) j 0 in
+      rw (falling (map dayNumber (o .dates)) i m (rw (at (suc i), at i) b)) (and-false (leb (length (o .dates)) 64))
+
+  opens-dated : OpensDated lent o
+  unfolding Days.rising
+  opens-dated = record {
+    no-date = λ d i n b. judged false (inOrder (datesOf o)) (rw d (all-not isDate (o .dates) i 0 n b)) refl;
+    many = λ d a n. judged true false (rw d a) (rw (d, lt-leb _ _ n));
+    falls = λ d a i n b. judged true false (rw d a) (rw d (unordered i n b));
+    listed = λ d a n r. judged true true (rw d a) (rw (d, le-leb _ _ n) r);
+    no-list = λ d. judged true true (rw d) (rw d);
+  }
+
 opens : (lent : Book) (o : Opening) → Opens lent o
 unfolding opening fresh ask
 opens lent o = record {
-  id-first = λ n. rw (ne-eqb _ _ n) (go (ranged (o .settings .delay)) (leb (o .settings .fee) 1000));
+  id-first = λ n. rw (ne-eqb _ _ n) (go (ranged (o .settings .delay)) (leb (o .settings .fee) 1000) (allDates (datesOf o)) (inOrder (datesOf o)));
   short = λ e h. rw (eq-eqb _ _ e, below-range _ h);
   long = λ e h. rw (eq-eqb _ _ e, above-range _ h);
   dear = λ e h k f. rw (eq-eqb _ _ e, le-leb _ _ h, le-leb _ _ k, lt-leb _ _ f);
-  accepted = λ e h k f. rw (eq-eqb _ _ e, le-leb _ _ h, le-leb _ _ k, le-leb _ _ f);
+  dates = opens-dated lent o;
   default = refl;
   fee = refl;
+  moves = opening-moves o;
 }
   where
-    go : (x y : Bool) → (let j = judge clean (test 2 false ∷ test 14 x ∷ test 20 y ∷ []) in record { book = cond (eqb (j .refusal) 0) (fresh o) lent; refusal = j .refusal }) ≡ notOpened lent 2
-    go x y = refl
+    go : (x y z w : Bool) → made lent o false x y z w ≡ notOpened lent 2
+    go x y z w = refl
 
 -- Keys of the right types.
 module _ (at : Context) (customer merchant : Party) (d : ℕ) (ch : Channel) (unused : ch .status ≡ 0) (first : typedKey (customer .key) ≡ true) (second : typedKey (merchant .key) ≡ true) where
@@ -138,6 +179,9 @@ module _ (check : List ℕ → List ℕ → List ℕ → Verdict) (hash : List �
   unfolding sound
   other-setup b e = unsound b (and-middle (eqb (b .mark) theMark && leb (b .clock .0) limit) _ (all soundChannel (b .channels)) e)
 
+  other-days : (b : Book) → soundDays (b .setup .count) (b .setup .days) ≡ false → Unsound check hash b
+  other-days b e = other-setup b (rw e (and-false (ranged (b .setup .delay) && leb (b .setup .fee) 1000 && leb (b .setup .dated) 1)))
+
   divides : (b : Book) (s : List ℕ) → (step check hash b s) .answer .refusal ≡ 0 → Divides (b .setup .fee) ((order check hash b s) .pays) ((step check hash b s) .answer)
   unfolding step answer charged
   divides b s h = go (sound b) refl
@@ -152,13 +196,18 @@ module _ (check : List ℕ → List ℕ → List ℕ → Verdict) (hash : List �
   refused b s h = carried-stops (judge clean (shared b s ((order check hash b s) .checks))) b (order check hash b s) h
 
   pub right-turns : WrongTurns check hash
-  unfolding total readChannel ask delayed establish fundCustomer fundMerchant reclaim mutualClose customerClose merchantClose dispute settle answer concluded ruling
+  unfolding total readChannel ask delayed answerableAt establish fundCustomer fundMerchant reclaim mutualClose customerClose merchantClose dispute settle answer concluded ruling
   right-turns = record {
     unsound = unsound;
     other-layout = other-layout;
     short-default = λ b h. other-setup b (rw (below-range _ h));
     long-default = λ b h. other-setup b (rw (above-range _ h));
-    dear-fee = λ b h. other-setup b (rw (lt-leb _ _ h) (and-false (ranged (b .setup .delay))));
+    dear-fee = λ b h. other-setup b (rw (lt-leb _ _ h, and-false (ranged (b .setup .delay))));
+    other-flag = λ b h. other-setup b (and-middle (ranged (b .setup .delay) && leb (b .setup .fee) 1000) (leb (b .setup .dated) 1) _ (lt-leb _ _ h));
+    many-days = λ b h. other-days b (too-many _ _ h);
+    late-day = λ b i h n e. other-days b (too-late _ _ i h n e);
+    falling-days = λ b i h n e. other-days b (not-rising _ _ i h n e);
+    unlisted = λ s t e. sym (unlisted s t e);
     opens = opens;
     refused = refused;
     divides = divides;
@@ -198,5 +247,6 @@ module _ (check : List ℕ → List ℕ → List ℕ → Verdict) (hash : List �
     };
     keys = compares-keys;
     ordered = in-order;
+    merchant-closes = λ at v ch. refl;
     answers = λ at c b lock v w ch. refl;
   }

@@ -8,21 +8,21 @@ use borrow.Author.Tests.{eq-eqb}
 use lib.ListN.{replicate}
 use Rattle.lms.specs.OneTime.{deficit}
 use Rattle.lms.proofs.StepLaw.{stepLaw}
+use Rattle.calendar.specs.Days.{rising}
 use Rattle.machine.specs.Book.{total, held, readChannel}
 use Rattle.machine.specs.Checks.{ask}
-use Rattle.machine.specs.Rules.{establish, fundCustomer, fundMerchant, reclaim, mutualClose, customerClose, merchantClose, dispute, settle}
+use Rattle.machine.specs.Rules.{answerableAt, establish, fundCustomer, fundMerchant, reclaim, mutualClose, customerClose, merchantClose, dispute, settle}
 use Rattle.machine.specs.Machine.{answer, concluded, ruling}
 use Rattle.machine.specs.Opening.{fresh, opening}
 use Rattle.machine.specs.Figures.{Figures, FeeFigures}
 use Rattle.machine.specs.declared.state.Leaves.{Leaves}
-use Rattle.machine.specs.declared.state.Setup.{Setup}
 use Rattle.machine.specs.declared.state.Book.{Book}
 use Rattle.wire.proofs.Laws.{same-refl}
 use Rattle.machine.proofs.Fees.{fee-bound}
 
-pub figures : (key other lock id : List ℕ) (d x v w q : ℕ) (used : Leaves) (setup : Setup) → Figures key other lock id d x v w q used setup
-unfolding deficit total held readChannel ask establish fundCustomer fundMerchant reclaim mutualClose customerClose merchantClose dispute settle answer concluded ruling
-figures key other lock id d x v w q used setup = record {
+pub figures : (key other lock id : List ℕ) (d x v w q default fee : ℕ) (used : Leaves) → Figures key other lock id d x v w q default fee used
+unfolding deficit total held readChannel ask answerableAt establish fundCustomer fundMerchant reclaim mutualClose customerClose merchantClose dispute settle answer concluded ruling
+figures key other lock id d x v w q default fee used = record {
   funds-900 = refl;
   funds-899 = refl;
   funds-100 = refl;
@@ -56,7 +56,7 @@ figures key other lock id d x v w q used setup = record {
 }
 
 pub fee-figures : (lent : Book) (id : List ℕ) → FeeFigures lent id
-unfolding ask opening fresh
+unfolding ask opening fresh rising
 fee-figures lent id = record {
   of-300 = refl;
   of-700 = refl;

@@ -1,11 +1,12 @@
--- Document 01, "Book": T, held, soundness, readings; document 02, No. 1 and No. 7: the default and the fee that a sound book keeps in their
--- limits; No. 5: the leaves that a channel remembers.
+-- Document 01, "Book": T, held, soundness, readings; document 02, No. 1, No. 7 and No. 8: the default, the fee and the dates that a sound book
+-- keeps in their limits; No. 5: the leaves that a channel remembers.
 use mathlib.Core.Bool.{Bool, cond, not, _&&_, _||_}
 use mathlib.Core.List.{List, []}
 use Prim.Native.Nat.{ℕ, _+_, _-_, _^_}
 use lib.ListN.{getD, set, replicate}
 use lib.Dec.{eqb, leb, ltb}
 use Rattle.wire.specs.Parts.{all}
+use Rattle.calendar.specs.Lists.{soundDays}
 use Rattle.machine.specs.declared.units.Cents.{Cents}
 use Rattle.machine.specs.declared.units.Seconds.{Seconds}
 use Rattle.machine.specs.declared.state.Party.{Party}
@@ -44,7 +45,7 @@ highest = 1000
 
 -- The number of the book's layout: a landing that changes the book changes it.
 abbrev pub layout : ℕ
-layout = 5
+layout = 6
 
 -- The mark of a layout: "arbiter" in bytes, then its number.
 abbrev pub markOf : ℕ → ℕ
@@ -94,7 +95,7 @@ soundChannel ch = leb (ch .status) 6 && (eqb (ch .status) 0 || soundTerms ch)
 
 -- What the opening fixed is in its limits.
 abbrev pub soundSetup : Setup → Bool
-soundSetup s = ranged (s .delay) && leb (s .fee) highest
+soundSetup s = ranged (s .delay) && leb (s .fee) highest && leb (s .dated) 1 && soundDays (s .count) (s .days)
 
 unfoldable pub sound : Book → Bool
 sound b = eqb (b .mark) theMark && leb (b .clock .0) limit && soundSetup (b .setup) && all soundChannel (b .channels)

@@ -1,23 +1,26 @@
 -- Document 01, "Figures at the edges": the starred rows, on the rules with verdicts given. Document 02, No. 2: rows of an account that only
 -- the merchant funds; No. 5: rows of disputes by their leaf; No. 7: fees.
 use mathlib.Core.Path.{_≡_}
-use mathlib.Core.Bool.{true, false}
-use mathlib.Core.List.{List}
+use mathlib.Core.Bool.{Bool, true, false}
+use mathlib.Core.List.{List, []}
 use Prim.Native.Nat.{ℕ, _+_, _-_, _^_, _≤_}
 use lib.ListN.{length, replicate}
 use Rattle.lms.specs.OneTime.{stepCount}
 use Rattle.machine.specs.Book.{cents, seconds, party, remembered, readChannel}
 use Rattle.machine.specs.Checks.{Verdict}
-use Rattle.machine.specs.Opening.{under, fresh, opening}
+use Rattle.machine.specs.Opening.{under, setupOf, fresh, opening}
 use Rattle.machine.specs.Fee.{feeOf}
 use Rattle.machine.specs.Rules.{Plan, keyed, establish, fundCustomer, fundMerchant, reclaim, mutualClose, customerClose, merchantClose, dispute, settle}
 use Rattle.machine.specs.Machine.{ruling}
 use Rattle.machine.specs.declared.state.Leaves.{Leaves}
 use Rattle.machine.specs.declared.state.Channel.{Channel}
 use Rattle.machine.specs.declared.state.Context.{Context}
-use Rattle.machine.specs.declared.state.Setup.{Setup}
+use Rattle.machine.specs.declared.state.Settings.{Settings}
 use Rattle.machine.specs.declared.state.Book.{Book}
 use Rattle.machine.specs.declared.answers.Ruled.{Ruled}
+
+abbrev pub settings : ℕ → ℕ → Bool → Settings
+settings default fee dated = record { delay = default; fee = fee; dated = dated }
 
 -- What a row shows: refusal and payments before the fee, then the reading's status, held and deadline.
 pub record Row : Type 0 where
@@ -54,11 +57,11 @@ abbrev pub left : (Channel → Plan) → Channel → Channel
 left rule ch = (ruling ch (rule ch)) .channel
 
 -- With any keys and lock, any deadline d, kept part x and leaves before a closing, any step counts v and w, any leaf q, in a dispute in time one
--- that is not remembered, and any id and setup of the book.
-module _ (key other lock id : List ℕ) (d x v w q : ℕ) (used : Leaves) (setup : Setup) where
+-- that is not remembered, and any id, default and fee of a book without a list of dates.
+module _ (key other lock id : List ℕ) (d x v w q default fee : ℕ) (used : Leaves) where
   -- A book whose clock shows this time.
   abbrev pub showing : ℕ → Context
-  showing t = record { id = id; clock = seconds t; setup = setup }
+  showing t = record { id = id; clock = seconds t; setup = setupOf (under (settings default fee false) [] id) }
 
   -- Delay 3,600.
   abbrev pub account : ℕ → ℕ → ℕ → ℕ → ℕ → Channel
@@ -145,6 +148,6 @@ pub record FeeFigures (lent : Book) (id : List ℕ) : Type 0 where
   pub of-10 : feeOf 1000 10 ≡ 1
   pub of-most : feeOf 1000 (2 ^ 63 - 1) ≡ 922337203685477580
   pub of-none : (amount : ℕ) → feeOf 0 amount ≡ 0
-  pub default-first : length id ≡ 16 → (opening lent (under (record { delay = 3599; fee = 1001 }) id)) .refusal ≡ 14
-  pub dear : length id ≡ 16 → (opening lent (under (record { delay = 3600; fee = 1001 }) id)) .refusal ≡ 20
-  pub dearest : length id ≡ 16 → opening lent (under (record { delay = 3600; fee = 1000 }) id) ≡ record { book = fresh (under (record { delay = 3600; fee = 1000 }) id); refusal = 0 }
+  pub default-first : length id ≡ 16 → (opening lent (under (settings 3599 1001 false) [] id)) .refusal ≡ 14
+  pub dear : length id ≡ 16 → (opening lent (under (settings 3600 1001 false) [] id)) .refusal ≡ 20
+  pub dearest : length id ≡ 16 → opening lent (under (settings 3600 1000 false) [] id) ≡ record { book = fresh (under (settings 3600 1000 false) [] id); refusal = 0 }

@@ -1,11 +1,13 @@
 -- Document 01, "Commands" and checks 5 to 12: for each of 02 to 0A its checks on the channel, in the paper's order, what becomes of the
 -- channel, and whom it pays. A rule takes what it reads of the book, the operands and the verdicts. Document 02, No. 1: a delay of 0; No. 2:
--- accounts that only the merchant funds; No. 5: a leaf counts once.
+-- accounts that only the merchant funds; No. 5: a leaf counts once; No. 8: deadlines on banking days.
 use mathlib.Core.Bool.{Bool, cond, not, _&&_, _||_}
 use mathlib.Core.List.{List, [], _∷_}
 use Prim.Native.Nat.{ℕ, _+_}
+use lib.ListN.{take}
 use lib.Dec.{eqb, leb, ltb}
 use Rattle.wire.specs.Parts.{same}
+use Rattle.calendar.specs.Days.{banked}
 use Rattle.lms.specs.Layout.{typedKey}
 use Rattle.machine.specs.Book.{cents, seconds, limit, ranged, total, leaves, remembered, closing}
 use Rattle.machine.specs.Checks.{Check, test, signed, Verdict}
@@ -13,6 +15,7 @@ use Rattle.machine.specs.declared.units.Cents.{Cents}
 use Rattle.machine.specs.declared.state.Party.{Party}
 use Rattle.machine.specs.declared.state.Leaves.{Leaves}
 use Rattle.machine.specs.declared.state.Channel.{Channel}
+use Rattle.machine.specs.declared.state.Setup.{Setup}
 use Rattle.machine.specs.declared.state.Context.{Context}
 
 pub record Payment : Type 0 where
@@ -142,6 +145,16 @@ mutualClose c b byMerchant byCustomer ch = record {
   pays = pay c b;
 }
 
+-- ---- the deadline of a closing
+
+-- The second t, or, in a book with a list of dates, where t lies on a shut day, 00:00:00 of the next day that is not.
+unfoldable pub answerableAt : Setup → ℕ → ℕ
+answerableAt s t = cond (eqb (s .dated) 0) t (banked (take (s .count) (s .days)) t)
+
+-- The clock and the channel's delay, moved.
+abbrev pub closesAt : Context → Channel → ℕ
+closesAt at ch = answerableAt (at .setup) (at .clock .0 + ch .delay)
+
 -- ---- 07 customer closes: pays the merchant b now, keeps c and the lock. From status 3 the deadline is not looked at
 
 -- Its leaf is remembered beside that of the 08 that it answers; from status 3 there is none.
@@ -157,7 +170,7 @@ customerClose at lock c b byMerchant byCustomer ch = record {
       ∷ signed 11 byMerchant
       ∷ signed 12 byCustomer
       ∷ [];
-  channel = moved ch 5 (at .clock .0 + ch .delay) c lock (closingLeaves (byMerchant .leaf) ch);
+  channel = moved ch 5 (closesAt at ch) c lock (closingLeaves (byMerchant .leaf) ch);
   pays = pay 0 b;
 }
 
@@ -169,7 +182,7 @@ merchantClose at byMerchant ch = record {
       test 5 (eqb (ch .status) 3)
       ∷ signed 11 byMerchant
       ∷ [];
-  channel = moved ch 4 (at .clock .0 + ch .delay) (ch .kept .0) (ch .lock) (leaves (byMerchant .leaf) (byMerchant .leaf));
+  channel = moved ch 4 (closesAt at ch) (ch .kept .0) (ch .lock) (leaves (byMerchant .leaf) (byMerchant .leaf));
   pays = pay 0 0;
 }
 

@@ -2,21 +2,25 @@
 -- opening, channel and command.
 use mathlib.Core.Path.{_≡_}
 use mathlib.Core.Bool.{Bool, true, false, _&&_}
-use mathlib.Core.List.{List, [], _∷_}
-use Prim.Native.Nat.{ℕ, _+_, _≤_, _<_}
+use mathlib.Core.List.{List, [], _∷_, map}
+use Prim.Native.Nat.{ℕ, suc, _+_, _≤_, _<_}
 use lib.Dec.{ltb}
 use lib.ListN.{length, getD}
+use Rattle.calendar.specs.Calendar.{numbered, isDate, dayNumber}
+use Rattle.calendar.specs.Days as Days
+use Rattle.calendar.specs.Lists.{allDates}
 use Rattle.lms.specs.Layout.{typedKey}
 use Rattle.machine.specs.Format.{opcode}
 use Rattle.machine.specs.Book.{cents, seconds, limit, layout, markOf, total, leaves, sound, noReading, readChannel, reading}
 use Rattle.machine.specs.Checks.{Verdict, Check, numberOf}
-use Rattle.machine.specs.Opening.{Opening, fresh, opening}
+use Rattle.machine.specs.Opening.{Opening, answerableBy, fresh, opening}
 use Rattle.machine.specs.Due.{none, due}
 use Rattle.machine.specs.Fee.{feeOf}
-use Rattle.machine.specs.Rules.{Payment, Plan, keyed, delayFits, establish, fundCustomer, fundMerchant, reclaim, mutualClose, customerClose, merchantClose, dispute, settle}
+use Rattle.machine.specs.Rules.{Payment, Plan, keyed, delayFits, answerableAt, establish, fundCustomer, fundMerchant, reclaim, mutualClose, customerClose, merchantClose, dispute, settle}
 use Rattle.machine.specs.Machine.{ruling, formed, order, step}
 use Rattle.machine.specs.declared.state.Party.{Party}
 use Rattle.machine.specs.declared.state.Channel.{Channel}
+use Rattle.machine.specs.declared.state.Setup.{Setup}
 use Rattle.machine.specs.declared.state.Context.{Context}
 use Rattle.machine.specs.declared.state.Book.{Book}
 use Rattle.machine.specs.declared.answers.Answer.{Answer}
@@ -82,16 +86,30 @@ pub record DisputesByLeaf (at : Context) (hashed : List ℕ) (v : Verdict) (ch :
 abbrev pub notOpened : Book → ℕ → Opened
 notOpened lent r = record { book = lent; refusal = r }
 
--- The id is looked at before the default, and the default before the fee. Refused, an opening keeps the lent book; accepted, the book keeps the
--- default and the fee that were given.
+abbrev pub opened : Opening → Opened
+opened o = record { book = fresh o; refusal = 0 }
+
+-- An opening whose id, default and fee are good. A date that does not exist, wherever it stands in the list and however long that is, is told
+-- before more than 64 dates or a pair that does not rise; without a list the dates are not looked at.
+pub record OpensDated (lent : Book) (o : Opening) : Type 0 where
+  pub no-date : o .settings .dated ≡ true → (i : ℕ) → i < length (o .dates) → isDate (getD (o .dates) i 0) ≡ false → opening lent o ≡ notOpened lent 21
+  pub many : o .settings .dated ≡ true → allDates (o .dates) ≡ true → 64 < length (o .dates) → opening lent o ≡ notOpened lent 22
+  pub falls : o .settings .dated ≡ true → allDates (o .dates) ≡ true → (i : ℕ) → suc i < length (o .dates) → dayNumber (getD (o .dates) (suc i) 0) ≤ dayNumber (getD (o .dates) i 0)
+      → opening lent o ≡ notOpened lent 22
+  pub listed : o .settings .dated ≡ true → allDates (o .dates) ≡ true → length (o .dates) ≤ 64 → Days.rising (map dayNumber (o .dates)) ≡ true → opening lent o ≡ opened o
+  pub no-list : o .settings .dated ≡ false → opening lent o ≡ opened o
+
+-- The id is looked at before the default, the default before the fee, and the fee before the dates. Refused, an opening keeps the lent book;
+-- accepted, the book keeps the default and the fee that were given, and moves a deadline by the dates that were given.
 pub record Opens (lent : Book) (o : Opening) : Type 0 where
   pub id-first : (length (o .id) ≡ 16 → ⊥) → opening lent o ≡ notOpened lent 2
   pub short : length (o .id) ≡ 16 → o .settings .delay < 3600 → opening lent o ≡ notOpened lent 14
   pub long : length (o .id) ≡ 16 → 2592000 < o .settings .delay → opening lent o ≡ notOpened lent 14
   pub dear : length (o .id) ≡ 16 → 3600 ≤ o .settings .delay → o .settings .delay ≤ 2592000 → 1000 < o .settings .fee → opening lent o ≡ notOpened lent 20
-  pub accepted : length (o .id) ≡ 16 → 3600 ≤ o .settings .delay → o .settings .delay ≤ 2592000 → o .settings .fee ≤ 1000 → opening lent o ≡ record { book = fresh o; refusal = 0 }
+  pub dates : length (o .id) ≡ 16 → 3600 ≤ o .settings .delay → o .settings .delay ≤ 2592000 → o .settings .fee ≤ 1000 → OpensDated lent o
   pub default : (fresh o) .setup .delay ≡ o .settings .delay
   pub fee : (fresh o) .setup .fee ≡ o .settings .fee
+  pub moves : (t : ℕ) → answerableAt ((fresh o) .setup) t ≡ answerableBy o t
 
 -- The customer has all that a rule pays him. The merchant's payment is divided by itself: the fee, and the rest to him.
 pub record Divides (r : ℕ) (p : Payment) (a : Answer) : Type 0 where
@@ -108,11 +126,17 @@ module _ (check : List ℕ → List ℕ → List ℕ → Verdict) (hash : List �
 
   pub record WrongTurns : Type 0 where
     pub unsound : (b : Book) → sound b ≡ false → Unsound b
-    -- A book of another layout is unsound, and so is one whose default or fee is out of range.
+    -- A book of another layout is unsound, and so is one whose default, fee or dates are out of range. Behind the first count of days anything
+    -- may stand, and the deadline of a book without a list does not look at them.
     pub other-layout : (b : Book) (n : ℕ) → b .mark ≡ markOf n → (n ≡ layout → ⊥) → Unsound b
     pub short-default : (b : Book) → b .setup .delay < 3600 → Unsound b
     pub long-default : (b : Book) → 2592000 < b .setup .delay → Unsound b
     pub dear-fee : (b : Book) → 1000 < b .setup .fee → Unsound b
+    pub other-flag : (b : Book) → 1 < b .setup .dated → Unsound b
+    pub many-days : (b : Book) → 64 < b .setup .count → Unsound b
+    pub late-day : (b : Book) (i : ℕ) → i < b .setup .count → i < length (b .setup .days) → numbered ≤ getD (b .setup .days) i 0 → Unsound b
+    pub falling-days : (b : Book) (i : ℕ) → suc i < b .setup .count → suc i < length (b .setup .days) → getD (b .setup .days) (suc i) 0 ≤ getD (b .setup .days) i 0 → Unsound b
+    pub unlisted : (s : Setup) (t : ℕ) → s .dated ≡ 0 → answerableAt s t ≡ t
     pub opens : (lent : Book) (o : Opening) → Opens lent o
     -- A refused command pays 0, 0 and 0 and changes no value of the book.
     pub refused : (b : Book) (s : List ℕ) → ((step check hash b s) .answer .refusal ≡ 0 → ⊥)
@@ -139,5 +163,6 @@ module _ (check : List ℕ → List ℕ → List ℕ → Verdict) (hash : List �
     pub keys : (at : Context) (customer merchant : Party) (d : ℕ) (ch : Channel) → ch .status ≡ 0 → typedKey (customer .key) ≡ true → typedKey (merchant .key) ≡ true → Keys at customer merchant d ch
     -- The checks of every command stand in the paper's order, 1 and 2 first.
     pub ordered : (b : Book) (s : List ℕ) → 1 ≤ opcode s → opcode s ≤ 10 → rising 0 (formed s ((order check hash b s) .checks)) ≡ true
-    -- An answering 07 has a deadline of its own.
-    pub answers : (at : Context) (c b : ℕ) (lock : List ℕ) (v w : Verdict) (ch : Channel) → ((customerClose at lock c b v w ch) .channel) .deadline ≡ seconds (at .clock .0 + ch .delay)
+    -- Every closing has a deadline of its own, moved, an answering 07 too.
+    pub merchant-closes : (at : Context) (v : Verdict) (ch : Channel) → ((merchantClose at v ch) .channel) .deadline ≡ seconds (answerableAt (at .setup) (at .clock .0 + ch .delay))
+    pub answers : (at : Context) (c b : ℕ) (lock : List ℕ) (v w : Verdict) (ch : Channel) → ((customerClose at lock c b v w ch) .channel) .deadline ≡ seconds (answerableAt (at .setup) (at .clock .0 + ch .delay))

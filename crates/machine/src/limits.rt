@@ -1,7 +1,7 @@
 // The limits of documents 01 and 02, and the mark.
 
 // The number of the book's layout: a landing that changes the book changes it.
-pub const LAYOUT: u32 = 5;
+pub const LAYOUT: u32 = 6;
 
 // The mark that every opening writes: "arbiter" in bytes, then the layout.
 pub const MARK: u64 = 0x6172626974657200 + LAYOUT as u64;

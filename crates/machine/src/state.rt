@@ -29,18 +29,23 @@ pub struct Channel {
     pub leaves: Leaves,
 }
 
-// What an opening is given: the delay that a 0 in a 02 stands for, and the fee in ten-thousandths.
+// What an opening is given: the delay that a 0 in a 02 stands for, the fee in ten-thousandths, and whether there is a list of shut dates.
 #[repr(C)]
 pub struct Settings {
     pub delay: u32,
     pub fee: u32,
+    pub dated: bool,
 }
 
-// What a book keeps of its opening. Whole words, so that no hole comes before the clock.
+// What a book keeps of its opening. Where dated is not 0 the first count of days are shut, and so are Saturdays and Sundays. An even count of words, so that
+// no hole comes before the clock.
 #[repr(C)]
 pub struct Setup {
     pub delay: u32,
     pub fee: u32,
+    pub days: [u32; 64],
+    pub count: u32,
+    pub dated: u32,
 }
 
 // The mark says that an opening wrote the book.

@@ -1,9 +1,9 @@
--- Laws of copies, of equal byte strings, of numbers in them and of arrays.
+-- Laws of truth values, of copies, of equal byte strings, of numbers in them and of arrays.
 use Prim.Native.Nat.{ℕ, suc, zero, _+_, _-_, _*_, _^_, _≤_, _<_}
 use native.Mathlib.Nat.{add-sub-cancel-left}
 use native.Mathlib.Omega.{arith}
 use mathlib.Core.Path.{_≡_, refl, sym, ap, _∙_}
-use mathlib.Core.Bool.{Bool, true, false, false≢true, _&&_, and-true, and-assoc}
+use mathlib.Core.Bool.{Bool, true, false, true≢false, false≢true, _&&_, _||_, and-true, and-assoc}
 use mathlib.Core.List.{List, [], _∷_, _++_, append-nil, map}
 use lib.Dec.{eqb}
 use borrow.Author.Tests.{eq-eqb}
@@ -23,6 +23,21 @@ and-both false b h = absurd (false≢true h)
 
 pub and-make : {a b : Bool} → a ≡ true → b ≡ true → (a && b) ≡ true
 and-make p q = rw (p, q)
+
+pub clash : {x : Bool} → x ≡ true → x ≡ false → ⊥
+clash p q = true≢false (sym p ∙ q)
+
+pub or-neither : (a b : Bool) → (a || b) ≡ false → (a ≡ false) × (b ≡ false)
+or-neither true b h = absurd (true≢false h)
+or-neither false b h = (refl, h)
+
+pub or-other : (a b : Bool) → (a || b) ≡ true → a ≡ false → b ≡ true
+or-other true b h n = absurd (true≢false n)
+or-other false b h n = h
+
+pub or-right : (a b : Bool) → b ≡ true → (a || b) ≡ true
+or-right true b h = refl
+or-right false b h = h
 
 pub same-refl : (l : List ℕ) → same l l ≡ true
 unfolding same

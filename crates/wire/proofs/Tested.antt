@@ -1,6 +1,6 @@
 -- A test of all of a list, one by one.
 use mathlib.Core.Path.{_≡_, refl, sym, ap, _∙_}
-use mathlib.Core.Bool.{Bool, true, _&&_, and-true, and-assoc}
+use mathlib.Core.Bool.{Bool, true, false, _&&_, and-true, and-false, and-assoc}
 use mathlib.Core.List.{List, [], _∷_, map}
 use Prim.Native.Nat.{ℕ, zero, suc, _+_, _≤_, _<_}
 use native.Mathlib.Numerals.{add-one}
@@ -15,6 +15,12 @@ pub all-at : {A : Type 0} (p : A → Bool) (l : List A) (i : ℕ) (d : A) → p 
 all-at p [] i d o e = o
 all-at p (x ∷ l) zero d o e = (and-both (p x) (all p l) e) .0
 all-at p (x ∷ l) (suc i) d o e = all-at p l i d o ((and-both (p x) (all p l) e) .1)
+
+-- It fails where one fails.
+pub all-not : {A : Type 0} (p : A → Bool) (l : List A) (i : ℕ) (d : A) → i < length l → p (getD l i d) ≡ false → all p l ≡ false
+all-not p [] i d h e = let z : ⊥ = omega arith in absurd z
+all-not p (x ∷ l) zero d h e = rw e
+all-not p (x ∷ l) (suc i) d h e = rw (all-not p l i d (omega arith) e) (and-false (p x))
 
 pub all-more : {A : Type 0} (p : A → Bool) (l : List A) (i : ℕ) (d : A) → i < length l → (all p (take i l) && p (getD l i d)) ≡ all p (take (suc i) l)
 all-more p [] i d h = let z : ⊥ = omega arith in absurd z

@@ -1,13 +1,13 @@
 use mathlib.Core.Path.{_≡_, ap, _∙_}
 use mathlib.Core.Bool.{cond, _||_}
 use mathlib.Core.List.{List}
-use Prim.Native.Nat.{ℕ, _+_}
+use Prim.Native.Nat.{ℕ}
 use native.Mathlib.Omega.{arith}
 use lib.Dec.{eqb, ltb}
 use Rattle.machine.specs.Format.{lock, customerPart, merchantPart}
 use Rattle.machine.specs.Book.{cents}
 use Rattle.machine.specs.Checks.{Verdict, test, signed, clean, passed, ask}
-use Rattle.machine.specs.Rules.{moved, sharesAll, closingLeaves, customerClose}
+use Rattle.machine.specs.Rules.{moved, sharesAll, closingLeaves, closesAt, customerClose}
 use Rattle.machine.specs.Machine.{concluded, ruling, verdict}
 use Rattle.machine.specs.Real.{lmsVerdict}
 use Rattle.machine.specs.declared.state.Leaves.{Leaves}
@@ -41,8 +41,8 @@ digest-at-requires c κs =
     let c₁₉ = c .before .before .before .before .before .before .before .before .before .before .before .before .before .before .before .before .before .before .before in
     omega (arith, c₁₉ .pre .2)
 
-deadline-from-requires : tie.Need-deadline-from-requires
-deadline-from-requires c κs =
+deadline-of-requires : tie.Need-deadline-of-requires
+deadline-of-requires c κs =
     let c₂₀ = c .before .before .before .before .before .before .before .before .before .before .before .before .before .before .before .before .before .before .before .before in
     c₂₀ .pre .1
 
@@ -51,10 +51,10 @@ module _ (ch : Channel) (at : Context) (digest : List ℕ) (customer merchant : 
   together : (j last : Judged) (leaf : ℕ) (used : Leaves)
       → j ≡ ask (ask (ask clean (test 5 (eqb (ch .status) 3 || eqb (ch .status) 4))) (test 8 (sharesAll customer merchant ch))) (test 9 (eqb (ch .status) 3 || ltb (at .clock .0) (ch .deadline .0)))
       → leaf ≡ cond (passed j) (v .leaf) 0 → last ≡ ask (ask j (signed 11 v)) (signed 12 w) → used ≡ closingLeaves leaf ch
-      → concluded last ch (moved ch 5 (at .clock .0 + ch .delay) customer digest used) (cents 0) (cents merchant) ≡ ruling ch (customerClose at digest customer merchant v w ch)
+      → concluded last ch (moved ch 5 (closesAt at ch) customer digest used) (cents 0) (cents merchant) ≡ ruling ch (customerClose at digest customer merchant v w ch)
   unfolding ruling customerClose
   together j last leaf used e l d u =
-      let ends : Judged → ℕ → Ruled = λ i q. concluded i ch (moved ch 5 (at .clock .0 + ch .delay) customer digest (closingLeaves q ch)) (cents 0) (cents merchant) in
+      let ends : Judged → ℕ → Ruled = λ i q. concluded i ch (moved ch 5 (closesAt at ch) customer digest (closingLeaves q ch)) (cents 0) (cents merchant) in
       rw (d, u, l) (leaf-known (λ i q. ends (ask i (signed 12 w)) q) j (signed 11 v) (v .leaf) (λ i z p q. unconcluded i z _ _ _ _ _ _) ∙ ap (λ (i : Judged). ends (ask (ask i (signed 11 v)) (signed 12 w)) (v .leaf)) e)
 
 returns : tie.Need-returns
@@ -75,7 +75,7 @@ returns c =
     let s = a .command .now in
     let v = verdict lmsVerdict (a .ch .merchant .key) (a .at .id) s 51 51 in
     let w = verdict lmsVerdict (a .ch .customer .key) (a .at .id) s 51 1503 in
-    c .ruled .ensures ∙ rw (c₂ .deadline-from .ensures, c₃ .digest-at .ensures, c₁₇ .u64-at2 .ensures, c₁₈ .u64-at .ensures)
+    c .ruled .ensures ∙ rw (c₂ .deadline-of .ensures, c₃ .digest-at .ensures, c₁₇ .u64-at2 .ensures, c₁₈ .u64-at .ensures)
     (together (a .ch) (a .at) (lock s) (customerPart 7 s) (merchantPart 7 s) v w _ _ _ _
     (rw (c₆ .tested3 .ensures .0, c₁₀ .tested2 .ensures .0, c₁₁ .sums-to .ensures, c₁₂ .total-of .ensures, c₁₃ .tested .ensures .0, c₁₆ .unjudged .ensures .0, c₁₇ .u64-at2 .ensures, c₁₈ .u64-at .ensures))
     (c₅ .signature-tested .ensures .1 .1) (c₄ .signature-tested2 .ensures .0 ∙ ap (λ (i : Judged). ask i (signed 12 w)) (c₅ .signature-tested .ensures .0)) (c .before .closing-leaves .ensures))
@@ -95,7 +95,7 @@ customer-close-spec =
     signature-tested-requires
     signature-tested-requires-2
     digest-at-requires
-    deadline-from-requires
+    deadline-of-requires
     (λ c κs. search needs)
     (λ c κs. search needs)
     returns)

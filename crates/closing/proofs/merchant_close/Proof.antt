@@ -23,7 +23,7 @@ returns c =
     let v = verdict lmsVerdict (a .ch .merchant .key) (a .at .id) (a .command .now) 3 3 in
     let f : Judged → ℕ → Ruled = λ i q. concluded i (a .ch) ((merchantClose (a .at) (record { good = v .good; steps = v .steps; leaf = q }) (a .ch)) .channel) (cents 0) (cents 0) in
     c .ruled .ensures
-    ∙ rw (c₂ .signature-tested .ensures .0, c₂ .signature-tested .ensures .1 .1, c₃ .tested .ensures .0, c₅ .unjudged .ensures .0, c .before .deadline-from .ensures)
+    ∙ rw (c₂ .signature-tested .ensures .0, c₂ .signature-tested .ensures .1 .1, c₃ .tested .ensures .0, c₅ .unjudged .ensures .0, c .before .deadline-of .ensures)
     (leaf-known f (ask clean (test 5 (eqb (a .ch .status) 3))) (signed 11 v) (v .leaf) (λ i z p q. rw z))
 
 pub merchant-close-spec : {M : Type 1} → statement M
