@@ -1,9 +1,13 @@
 -- An opening whose checks have been made.
 use mathlib.Core.Path.{_≡_, refl, sym, ap, _∙_}
+use mathlib.Core.Bool.{true}
+use mathlib.Core.List.{List}
+use Prim.Native.Nat.{ℕ}
 use lib.ListN.{length}
 use borrow.Author.Tests.{ne-eqb, eqb-true}
+use Rattle.calendar.specs.Lists.{inOrder, keptDays}
 use Rattle.machine.specs.Checks.{clean, judge}
-use Rattle.machine.specs.Opening.{Opening, openingChecks, fresh, opening}
+use Rattle.machine.specs.Opening.{Opening, datesOf, openingChecks, keptBy, freshBook, fresh, opening}
 use Rattle.machine.specs.declared.state.Book.{Book}
 use Rattle.machine.specs.declared.answers.Judged.{Judged}
 use Rattle.machine.proofs.Judging.{judge-passed}
@@ -17,6 +21,14 @@ module _ (o : Opening) (j : Judged) (e : j ≡ judge clean (openingChecks o)) wh
   unfolding opening
   opening-yes lent h = rw (← e, h)
 
-  -- The id is 16 bytes long where they said yes.
+  -- The dates are in order, and the id is 16 bytes long, where they said yes.
+  pub ordered : j .refusal ≡ 0 → inOrder (datesOf o) ≡ true
+  ordered h = (judge-passed (openingChecks o) clean refl (ap (λ (i : Judged). i .refusal) (sym e) ∙ h)) .1 .1 .1 .1 .1 .0
+
   pub whole-id : j .refusal ≡ 0 → length (o .id) ≡ 16
   whole-id h = eqb-true _ _ ((judge-passed (openingChecks o) clean refl (ap (λ (i : Judged). i .refusal) (sym e) ∙ h)) .1 .0)
+
+-- The book of an opening, with what was made of its id and its dates.
+pub fresh-by : (o : Opening) (id days : List ℕ) (count : ℕ) → id ≡ o .id → days ≡ keptDays (datesOf o) → count ≡ length (datesOf o) → freshBook id (keptBy (o .settings) days count) ≡ fresh o
+unfolding fresh
+fresh-by o id days count i d n = rw (i, d, n)

@@ -17,7 +17,7 @@ use machine::Settings;
 use machine::Setup;
 use wire::id_at;
 ghost use mathlib.Core.Path.{_≡_};
-ghost use Rattle.machine.specs.Opening.{under, plainly, plainSettings, deskSettings, unused, fresh, opening, blankBook};
+ghost use Rattle.machine.specs.Opening.{under, plainly, plainSettings, deskSettings, keptBy, unused, freshBook, opening, blankBook};
 
 // Status 0, and zeros.
 fn unused_channel() -> Channel

@@ -57,7 +57,18 @@ fn changed(channel: Channel, field: u8, value: u64) -> Channel {
     after
 }
 
-// What the book keeps of its opening; 8 is the default delay and 11 the fee. What does not fit is left out.
+// Day n of a book's list.
+fn with_day(setup: Setup, n: usize, value: u64) -> Setup {
+    let mut after = setup;
+    if value < 4294967296 {
+        if n < 64 {
+            after.days[n] = value as u32;
+        }
+    }
+    after
+}
+
+// What the book keeps of its opening; 8 is the default delay, 11 the fee, 12 whether there is a list, and 13 its count. What does not fit is left out.
 fn kept(setup: Setup, field: u8, value: u64) -> Setup {
     let mut after = setup;
     if value < 4294967296 {
@@ -67,11 +78,17 @@ fn kept(setup: Setup, field: u8, value: u64) -> Setup {
         if field == 11 {
             after.fee = value as u32;
         }
+        if field == 12 {
+            after.dated = value as u32;
+        }
+        if field == 13 {
+            after.count = value as u32;
+        }
     }
     after
 }
 
-// The field, the channel and the value, in ten bytes; 0 is the mark and 1 the clock.
+// The field, the channel or the day, and the value, in ten bytes; 0 is the mark, 1 the clock and 14 a day.
 pub fn overwritten(book: Book, bytes: &[u8]) -> Book {
     if bytes.len() != 10 {
         return book;
@@ -87,6 +104,11 @@ pub fn overwritten(book: Book, bytes: &[u8]) -> Book {
     if field == 1 {
         let clock = Seconds(value);
         after.clock = clock;
+        return after;
+    }
+    if field == 14 {
+        let setup = with_day(after.setup, n, value);
+        after.setup = setup;
         return after;
     }
     let setup = kept(after.setup, field, value);

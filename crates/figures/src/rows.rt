@@ -8,6 +8,7 @@ use arbiter::Book;
 use arbiter::Settings;
 use wire::u16_at;
 use wire::u32_at;
+ghost use mathlib.Core.Path.{_≡_};
 ghost use Prim.Native.Nat.{_+_, _≤_};
 ghost use lib.ListN.{length};
 
@@ -18,7 +19,7 @@ fn open_row(book: Book, bytes: &[u8]) -> Book {
     opened.book
 }
 
-// An opening with settings: four bytes of default delay, four of fee, then the id.
+// An opening with settings and no list of dates: four bytes of default delay, four of fee, then the id. A number that is no date stands there unseen.
 fn open_with_row(book: Book, bytes: &[u8]) -> Book {
     if bytes.len() < 8 {
         return book;
@@ -26,8 +27,43 @@ fn open_with_row(book: Book, bytes: &[u8]) -> Book {
     let settings = Settings {
         delay: u32_at(bytes, 0),
         fee: u32_at(bytes, 4),
+        dated: false,
     };
-    let opened = arbiter::opened_with(book, &bytes[8..], settings);
+    let unseen = [0u32; 1];
+    let opened = arbiter::opened_with(book, &bytes[8..], settings, &unseen);
+    print_opened(opened.refusal);
+    opened.book
+}
+
+// The numbers of four bytes each from the place 24 on.
+fn dates_in(bytes: &[u8]) -> [u32; 72]
+    ensures { λ r. ⌜ length r ≡ 72 ⌝ }
+{
+    let mut dates = [0u32; 72];
+    for i in 0..72 {
+        if 28 + 4 * i <= bytes.len() {
+            dates[i] = u32_at(bytes, 24 + 4 * i);
+        }
+    }
+    dates
+}
+
+// The same with a list: the default delay, the fee, an id of 16 bytes, then four bytes for each of at most 72 dates.
+fn open_dated_row(book: Book, bytes: &[u8]) -> Book {
+    if bytes.len() < 24 {
+        return book;
+    }
+    if bytes.len() > 312 {
+        return book;
+    }
+    let dates = dates_in(bytes);
+    let count = (bytes.len() - 24) / 4;
+    let settings = Settings {
+        delay: u32_at(bytes, 0),
+        fee: u32_at(bytes, 4),
+        dated: true,
+    };
+    let opened = arbiter::opened_with(book, &bytes[8..24], settings, &dates[..count]);
     print_opened(opened.refusal);
     opened.book
 }
@@ -67,6 +103,9 @@ fn row(book: Book, kind: u8, bytes: &[u8]) -> Book {
     }
     if kind == 6 {
         return open_with_row(book, bytes);
+    }
+    if kind == 8 {
+        return open_dated_row(book, bytes);
     }
     overwritten(book, bytes)
 }

@@ -42,7 +42,7 @@ pub extern "C" fn finaruvom_version() -> Version
 {
     Version {
         major: 0,
-        minor: 16,
+        minor: 17,
         patch: 0,
         layout: LAYOUT,
     }
@@ -50,7 +50,7 @@ pub extern "C" fn finaruvom_version() -> Version
 
 // Its name carries the layout, so that a program with another one's header does not link.
 #[no_mangle]
-pub extern "C" fn finaruvom_layout_5() -> u32
+pub extern "C" fn finaruvom_layout_6() -> u32
     ensures { λ r. ⌜ r ≡ layout ⌝ }
 {
     LAYOUT
@@ -123,13 +123,19 @@ pub extern "C" fn finaruvom_desk_settings() -> Settings
     arbiter::desk_settings()
 }
 
-// The opening with settings: 2 for the id, then 14 where the default delay is out of its range, then 20 for the fee; refused, it keeps every value.
+// The opening with settings and dates: 2 for the id, then 14 where the default delay is out of its range, then 20 for the fee, then 21 where a date does not
+// exist, then 22 where they are more than 64 or do not rise; refused, it keeps every value.
 #[no_mangle]
-pub extern "C" fn finaruvom_open_with(book: &mut Book, id: &[u8], settings: Settings) -> u32
-    ensures { λ r. ⌜ (r ≡ opening (now (book .entry)) (under settings (now (id .entry))) .refusal)
-        × (now (book .exit) ≡ opening (now (book .entry)) (under settings (now (id .entry))) .book) ⌝ }
+pub extern "C" fn finaruvom_open_with(
+    book: &mut Book,
+    id: &[u8],
+    settings: Settings,
+    dates: &[u32],
+) -> u32
+    ensures { λ r. ⌜ (r ≡ opening (now (book .entry)) (under settings (now (dates .entry)) (now (id .entry))) .refusal)
+        × (now (book .exit) ≡ opening (now (book .entry)) (under settings (now (dates .entry)) (now (id .entry))) .book) ⌝ }
 {
-    arbiter::open_with(book, id, settings)
+    arbiter::open_with(book, id, settings, dates)
 }
 
 // Carries a command out on the lent book, or refuses it and keeps every value.

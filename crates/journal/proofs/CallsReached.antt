@@ -4,6 +4,8 @@ use mathlib.Core.List.{List, [], _∷_, _++_}
 use native.Mathlib.Omega.{arith}
 use Rattle.wire.specs.Numbers.{u16At, u32At, u64At}
 use Rattle.wire.specs.Parts.{same}
+use Rattle.calendar.specs.Calendar.{leap, monthDays, before, since, dayNumber}
+use Rattle.calendar.specs.Days.{above, rising}
 use Rattle.machine.specs.Format.{size}
 use Rattle.machine.specs.Book.{soundChannel, sound, reading}
 use Rattle.machine.specs.Checks.{ask}
@@ -37,5 +39,5 @@ record Reached (t : Standing) : Type 0 where
   holds : (reading (t .book) 5) .held .0 ≡ 1000
 
 reached : Reached funded
-unfolding funded u16At u32At u64At same size soundChannel sound fresh opening ask delayed keyed establish fundCustomer fundMerchant answer plan charged step strings sum opcodes nextBy turnedOf runOf divided told called
+unfolding funded u16At u32At u64At same size leap monthDays before since dayNumber above rising soundChannel sound fresh opening ask delayed keyed establish fundCustomer fundMerchant answer plan charged step strings sum opcodes nextBy turnedOf runOf divided told called
 reached = record { commands = refl; deposited = refl; unpaid = refl; holds = omega (arith, (journal-demand blankBook opens refl list 5 (omega arith)) .conserved) }

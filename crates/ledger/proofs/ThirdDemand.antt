@@ -273,9 +273,9 @@ module _ (check : List ℕ → List ℕ → List ℕ → Verdict) (hash : List �
         let from = (eventOf 7 (strings n (t .history))) .clock in
         let agreed : Setup → ℕ = λ (x : Setup). delayed (x .delay) (delay ((eventOf 2 (strings n (t .history))) .string)) in
         let due = m .1 .closing .due
-            ∙ ap (λ (wait : ℕ). answerableAt (t .book .setup) (from + wait)) (m .1 .terms .delays)
-            ∙ ap (λ (x : Setup). answerableAt x (from + agreed x)) (i .setup)
-            ∙ opening-moves o (from + agreed (setupOf o)) in
+        ∙ ap (λ (wait : ℕ). answerableAt (t .book .setup) (from + wait)) (m .1 .terms .delays)
+        ∙ ap (λ (x : Setup). answerableAt x (from + agreed x)) (i .setup)
+        ∙ opening-moves o (from + agreed (setupOf o)) in
         let early : t .book .clock .0 < c .deadline .0 = omega (arith, due, w .early, i .now) in
         let free : remembered (leafOf check o (strings n (t .history)) 9 d) c ≡ false = unremembered (leafOf check o (strings n (t .history))) (strings n (t .history)) c (rw (i .same) at (m .1 .leaves)) d (v .unspent) in
         rw (v .code, v .named) (sound-book check o t i, (refl, (eq-eqb (length d) (size 9) (v .whole), (lt-ltb n 64 p, (eq-eqb (c .status) 5 (m .0), (lt-ltb _ _ early, (rw (v .opens, m .1 .closing .lock′) (same-refl _), (rw (i .same, m .1 .terms .signer) (v .good), (rw (i .same, m .1 .terms .signer) (ap not free), tt)))))))))

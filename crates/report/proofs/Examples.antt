@@ -1,6 +1,7 @@
 -- The definitions give the example of the paper: antt computes them on its input.
 use mathlib.Core.Path.{refl}
 use Rattle.wire.specs.Numbers.{bytes, u16At, u32At, u64At}
+use Rattle.calendar.specs.Days.{rising}
 use Rattle.machine.specs.Format.{size}
 use Rattle.machine.specs.Book.{soundChannel, sound}
 use Rattle.machine.specs.Opening.{fresh, opening}
@@ -15,5 +16,5 @@ use Rattle.report.specs.Statement.{noLines, runText, statementOf}
 use Rattle.report.specs.Examples.{Examples}
 
 pub examples : Examples
-unfolding bytes u16At u32At u64At size soundChannel sound fresh opening ask settle answer plan charged step nextBy turnedOf runOf spelled decimal closer row fields linesFrom endLine noLines runText statementOf
+unfolding bytes u16At u32At u64At size rising soundChannel sound fresh opening ask settle answer plan charged step nextBy turnedOf runOf spelled decimal closer row fields linesFrom endLine noLines runText statementOf
 examples = record { paper = refl; none = refl; some = refl }
