@@ -1,8 +1,8 @@
 // A book to lend, and the openings that make it fresh: the plain one, and one that is given settings and dates.
-use calendar::Listed;
-use calendar::list_of;
 use checks::tested;
 use checks::unjudged;
+use days::Listed;
+use days::list_of;
 use fees::fee_fits;
 use holdings::delay_fits;
 use machine::Book;

@@ -1,14 +1,14 @@
 -- The count of days: tables of months and a formula of years, each tested by computing, and the claim of the calendar.
-use mathlib.Core.Path.{_≡_, refl, sym, ap, _∙_}
+use mathlib.Core.Path.{_≡_, refl}
 use mathlib.Core.Bool.{Bool, true, false, cond, _&&_}
 use mathlib.Core.List.{List, [], _∷_}
 use Prim.Native.Nat.{ℕ, zero, suc, _+_, _*_, _-_, _/_, _≤_, _<_}
 use native.Mathlib.Omega.{arith}
 use lib.Dec.{eqb, leb, ltb}
-use lib.ListN.{length, getD, List·getD-eq-default}
-use borrow.Author.Tests.{eqb-true, eqb-false, leb-true, ltb-true, ltb-false}
+use lib.ListN.{getD, List·getD-eq-default}
+use borrow.Author.Tests.{eqb-true, eqb-false, leb-true, ltb-false}
 use Rattle.wire.proofs.Laws.{and-both}
-use Rattle.calendar.specs.Calendar.{Date, date, leap, monthDays, before, yearDays, since, exists, dayOf, numbered, following, dayNumber, isDate, dateOf, CalendarMeans}
+use Rattle.calendar.specs.Calendar.{Date, date, leap, monthDays, before, yearDays, since, exists, dayOf, numbered, dayNumber, isDate, dateOf, CalendarMeans}
 
 -- ---- a test of every number below n
 

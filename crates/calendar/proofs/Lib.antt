@@ -2,3 +2,4 @@
 pub mod Counting
 pub mod NextDay
 pub mod Listing
+pub mod Worked

@@ -1,11 +1,11 @@
 -- The next open day: of a rising list it is the first that is not shut; of every list it is the day itself exactly where that is open.
 use mathlib.Core.Path.{_≡_, refl, sym, _∙_, subst}
-use mathlib.Core.Bool.{Bool, true, false, cond, true≢false, false≢true, _&&_, _||_}
+use mathlib.Core.Bool.{Bool, true, false, cond, _||_}
 use mathlib.Core.List.{List, [], _∷_}
-use Prim.Native.Nat.{ℕ, zero, suc, _+_, _*_, _-_, _/_, _%_, _≤_, _<_, min}
+use Prim.Native.Nat.{ℕ, suc, _+_, _*_, _-_, _/_, _≤_, _<_}
 use native.Mathlib.Numerals.{add-one}
 use native.Mathlib.Omega.{arith}
-use lib.Dec.{eqb, leb, ltb}
+use lib.Dec.{eqb, ltb}
 use lib.ListN.{length, take, drop, getD, length-take, drop-of-length-le}
 use lib.Seq.{drop-cons, getD-take}
 use borrow.Author.Tests.{eqb-true, eqb-false, eq-eqb, ne-eqb, ltb-true, ltb-false}
@@ -48,9 +48,9 @@ skips d = go (eqb (weekday d) 6) refl (eqb (weekday d) 0) refl
   where
     go : (x : Bool) → eqb (weekday d) 6 ≡ x → (y : Bool) → eqb (weekday d) 0 ≡ y → Skips d (cond x (d + 2) (cond y (d + 1) d))
     go true p y q =
-        let h : (d + 4) % 7 ≡ 6 = eqb-true _ _ p in
-        let i : (d + 1 + 4) % 7 ≡ 0 = omega arith in
-        let j : (d + 2 + 4) % 7 ≡ 1 = omega arith in
+        let h : weekday d ≡ 6 = eqb-true _ _ p in
+        let i : weekday (d + 1) ≡ 0 = omega (arith, h) in
+        let j : weekday (d + 2) ≡ 1 = omega (arith, h) in
         record {
           on = omega arith;
           works = workday (d + 2) (λ z. omega arith) (λ z. omega arith);
@@ -58,8 +58,8 @@ skips d = go (eqb (weekday d) 6) refl (eqb (weekday d) 0) refl
           near = omega arith;
         }
     go false p true q =
-        let h : (d + 4) % 7 ≡ 0 = eqb-true _ _ q in
-        let j : (d + 1 + 4) % 7 ≡ 1 = omega arith in
+        let h : weekday d ≡ 0 = eqb-true _ _ q in
+        let j : weekday (d + 1) ≡ 1 = omega (arith, h) in
         record {
           on = omega arith;
           works = workday (d + 1) (λ z. omega arith) (λ z. omega arith);

@@ -2,3 +2,4 @@
 pub mod Calendar
 pub mod Days
 pub mod Lists
+pub mod Figures

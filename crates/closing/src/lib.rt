@@ -1,10 +1,10 @@
 // 06 to 0A on one channel: how it is closed, and what each way pays. Only the product's own parts call it.
-use calendar::banked;
 use checks::ruled;
 use checks::secret_tested;
 use checks::signature_tested;
 use checks::tested;
 use checks::unjudged;
+use days::banked;
 use holdings::cents_if;
 use holdings::sums_to;
 use holdings::total_of;

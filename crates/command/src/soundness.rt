@@ -1,5 +1,5 @@
 // Whether a book is sound: any values may stand in a lent one.
-use calendar::sound_days;
+use days::sound_days;
 use fees::fee_fits;
 use holdings::delay_fits;
 use holdings::sound_channel;

@@ -8,7 +8,7 @@ use lib.ListN.{getD}
 use lib.Dec.{leb}
 use borrow.Author.Tests.{leb-true, leb-false}
 use Rattle.machine.specs.Book.{sound, closing, noChannel}
-use Rattle.machine.specs.Due.{sooner, soonest, Due, number, none, due, FirstDue, DueMeans}
+use Rattle.machine.specs.Due.{sooner, soonest, number, none, due, FirstDue, DueMeans}
 use Rattle.machine.specs.declared.state.Book.{Book}
 use Rattle.machine.specs.declared.state.Channel.{Channel}
 use Rattle.machine.specs.declared.answers.Soonest.{Soonest}

@@ -9,7 +9,7 @@ use borrow.Author.Tests.{eqb-true, leb-true, eq-eqb, ne-eqb}
 use Rattle.wire.specs.Parts.{same, all}
 use Rattle.calendar.specs.Calendar.{dayNumber}
 use Rattle.calendar.specs.Days.{banked}
-use Rattle.calendar.specs.Lists.{given, keptDays, soundDays}
+use Rattle.calendar.specs.Lists.{given, keptDays}
 use Rattle.calendar.proofs.Listing.{kept-list}
 use Rattle.machine.specs.Book.{limit, shortest, longest, ranged, highest, theMark, soundChannel, soundSetup, sound}
 use Rattle.machine.specs.Opening.{Opening, answerableBy, setupOf}
@@ -29,9 +29,7 @@ in-range d h = let p = and-both (leb shortest d) (leb d longest) h in (leb-true 
 -- What a sound setup tells of the default and of the fee.
 pub setup-limits : (s : Setup) → soundSetup s ≡ true → (ranged (s .delay) ≡ true) × (s .fee ≤ highest)
 setup-limits s h =
-    let d = and-both _ (soundDays (s .count) (s .days)) h in
-    let f = and-both _ (leb (s .dated) 1) (d .0) in
-    let p = and-both (ranged (s .delay)) (leb (s .fee) highest) (f .0) in
+    let p = and-both _ _ ((and-both _ _ ((and-both _ _ h) .0)) .0) in
     (p .0, leb-true _ _ (p .1))
 
 -- A deadline of a book without a list, and of one with it, as the code takes them.

@@ -1,4 +1,4 @@
--- The starred figures, and those of document 02, No. 2, No. 5 and No. 7: the rules by computing, the chain steps by the law of `lms`.
+-- The starred figures, and those of document 02, No. 2, No. 5, No. 7 and No. 8: the rules by computing, the chain steps by the law of `lms`.
 use mathlib.Core.Path.{refl}
 use mathlib.Core.List.{List}
 use Prim.Native.Nat.{ℕ}
@@ -8,13 +8,14 @@ use borrow.Author.Tests.{eq-eqb}
 use lib.ListN.{replicate}
 use Rattle.lms.specs.OneTime.{deficit}
 use Rattle.lms.proofs.StepLaw.{stepLaw}
-use Rattle.calendar.specs.Days.{rising}
+use Rattle.calendar.specs.Calendar.{leap, monthDays, before, since, dayNumber}
+use Rattle.calendar.specs.Days.{weekend, listed, above, rising, skip, past, nextOpen, banked}
 use Rattle.machine.specs.Book.{total, held, readChannel}
 use Rattle.machine.specs.Checks.{ask}
 use Rattle.machine.specs.Rules.{answerableAt, establish, fundCustomer, fundMerchant, reclaim, mutualClose, customerClose, merchantClose, dispute, settle}
 use Rattle.machine.specs.Machine.{answer, concluded, ruling}
 use Rattle.machine.specs.Opening.{fresh, opening}
-use Rattle.machine.specs.Figures.{Figures, FeeFigures}
+use Rattle.machine.specs.Figures.{Figures, DayFigures, OpeningFigures, FeeFigures}
 use Rattle.machine.specs.declared.state.Leaves.{Leaves}
 use Rattle.machine.specs.declared.state.Book.{Book}
 use Rattle.wire.proofs.Laws.{same-refl}
@@ -53,6 +54,35 @@ figures key other lock id d x v w q default fee used = record {
   disputes-with-free-0 = rw (same-refl lock);
   steps-of-FF = stepLaw .law (replicate 32 255) refl;
   steps-of-00 = stepLaw .law (replicate 32 0) refl;
+}
+
+day-figures : (key other lock id : List ℕ) (d x v w q default fee : ℕ) (used : Leaves) → DayFigures key other lock id d x v w q default fee used
+unfolding total held readChannel ask leap monthDays before since dayNumber weekend listed skip past nextOpen banked answerableAt merchantClose customerClose dispute settle answer concluded ruling
+day-figures key other lock id d x v w q default fee used = record {
+  friday = refl;
+  saturday = refl;
+  listed-monday = refl;
+  customer-friday = refl;
+  customer-saturday = refl;
+  answers-at-345599 = refl;
+  answers-at-345600 = refl;
+  disputes-at-345599 = rw (same-refl lock);
+  disputes-at-345600 = refl;
+  settles-at-345599 = refl;
+  settles-at-345600 = refl;
+}
+
+opening-figures : (lent : Book) (id : List ℕ) → OpeningFigures lent id
+unfolding ask leap monthDays before since dayNumber above rising opening fresh
+opening-figures lent id = record {
+  dear = λ e. rw (eq-eqb _ _ e);
+  no-date = λ e. rw (eq-eqb _ _ e);
+  falling = λ e. rw (eq-eqb _ _ e);
+  no-list = λ e. rw (eq-eqb _ _ e);
+  days = refl;
+  count = refl;
+  flag = refl;
+  no-flag = refl;
 }
 
 pub fee-figures : (lent : Book) (id : List ℕ) → FeeFigures lent id

@@ -1,10 +1,10 @@
 -- Document 01, "Figures at the edges": the starred rows, on the rules with verdicts given. Document 02, No. 2: rows of an account that only
--- the merchant funds; No. 5: rows of disputes by their leaf; No. 7: fees.
+-- the merchant funds; No. 5: rows of disputes by their leaf; No. 7: fees; No. 8: moved deadlines and lists of dates.
 use mathlib.Core.Path.{_≡_}
 use mathlib.Core.Bool.{Bool, true, false}
-use mathlib.Core.List.{List, []}
+use mathlib.Core.List.{List, [], _∷_}
 use Prim.Native.Nat.{ℕ, _+_, _-_, _^_, _≤_}
-use lib.ListN.{length, replicate}
+use lib.ListN.{length, take, replicate}
 use Rattle.lms.specs.OneTime.{stepCount}
 use Rattle.machine.specs.Book.{cents, seconds, party, remembered, readChannel}
 use Rattle.machine.specs.Checks.{Verdict}
@@ -133,6 +133,42 @@ module _ (key other lock id : List ℕ) (d x v w q default fee : ℕ) (used : Le
     pub disputes-with-free-0 : by (disputes 4599 0) (left (closes 9) (example 3 d x)) ≡ row 0 0 700 6 0 0
     pub steps-of-FF : stepCount (replicate 32 255) ≡ 510
     pub steps-of-00 : stepCount (replicate 32 0) ≡ 8415
+
+  -- A book with this list of dates, whose clock shows this time.
+  abbrev pub dated : List ℕ → ℕ → Context
+  dated dates t = record { id = id; clock = seconds t; setup = setupOf (under (settings default fee true) dates id) }
+
+  -- The channel after a closing of either side at this time: the empty list, and one with 1970-01-05, a Monday.
+  abbrev pub merchantLeft : List ℕ → ℕ → Channel
+  merchantLeft dates t = left (merchantClose (dated dates t) (good v 7)) (example 3 d x)
+
+  abbrev pub customerLeft : List ℕ → ℕ → Channel
+  customerLeft dates t = left (customerClose (dated dates t) lock 700 300 (good v 9) (good w q)) (example 3 d x)
+
+  -- The deadline is an hour after the closing: it stays in the last second of Friday, and else is moved to Monday, or to Tuesday.
+  pub record DayFigures : Type 0 where
+    pub friday : (readChannel (merchantLeft [] 169199)) .deadline .0 ≡ 172799
+    pub saturday : (readChannel (merchantLeft [] 169200)) .deadline .0 ≡ 345600
+    pub listed-monday : (readChannel (merchantLeft (19700105 ∷ []) 169200)) .deadline .0 ≡ 432000
+    pub customer-friday : (readChannel (customerLeft [] 169199)) .deadline .0 ≡ 172799
+    pub customer-saturday : (readChannel (customerLeft [] 169200)) .deadline .0 ≡ 345600
+    pub answers-at-345599 : by (customerClose (dated [] 345599) lock 700 300 (good v 9) (good w q)) (merchantLeft [] 169200) ≡ row 0 0 300 5 700 349199
+    pub answers-at-345600 : by (customerClose (dated [] 345600) lock 700 300 (good v 9) (good w q)) (merchantLeft [] 169200) ≡ row 9 0 0 4 1000 345600
+    pub disputes-at-345599 : by (dispute (dated [] 345599) lock (good v 8)) (customerLeft [] 169200) ≡ row 0 0 700 6 0 0
+    pub disputes-at-345600 : by (dispute (dated [] 345600) lock (good v 8)) (customerLeft [] 169200) ≡ row 9 0 0 5 700 345600
+    pub settles-at-345599 : by (settle (dated [] 345599)) (customerLeft [] 169200) ≡ row 9 0 0 5 700 345600
+    pub settles-at-345600 : by (settle (dated [] 345600)) (customerLeft [] 169200) ≡ row 0 700 0 6 0 0
+
+-- What an opening answers that is given a list: the fee is told before a date, and a date before the order.
+pub record OpeningFigures (lent : Book) (id : List ℕ) : Type 0 where
+  pub dear : length id ≡ 16 → (opening lent (under (settings 3600 1001 true) (20260230 ∷ []) id)) .refusal ≡ 20
+  pub no-date : length id ≡ 16 → (opening lent (under (settings 3600 1000 true) (20260502 ∷ 20260501 ∷ 20260230 ∷ []) id)) .refusal ≡ 21
+  pub falling : length id ≡ 16 → (opening lent (under (settings 3600 1000 true) (20260502 ∷ 20260501 ∷ []) id)) .refusal ≡ 22
+  pub no-list : length id ≡ 16 → (opening lent (under (settings 3600 1000 false) (20260230 ∷ []) id)) .refusal ≡ 0
+  pub days : take 3 ((fresh (under (settings 3600 1000 true) (20261225 ∷ 20261228 ∷ []) id)) .setup .days) ≡ 20812 ∷ 20815 ∷ 0 ∷ []
+  pub count : (fresh (under (settings 3600 1000 true) (20261225 ∷ 20261228 ∷ []) id)) .setup .count ≡ 2
+  pub flag : (fresh (under (settings 3600 1000 true) [] id)) .setup .dated ≡ 1
+  pub no-flag : (fresh (under (settings 3600 1000 false) [] id)) .setup .dated ≡ 0
 
 -- The fee of 300 and 700 by 250 ten-thousandths, of both at once, and the bound between them; the smallest amount with a fee of a cent; the
 -- largest amount at the highest fee. Openings with the id of any length 16: a wrong default is told before a wrong fee.

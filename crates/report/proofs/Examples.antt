@@ -10,7 +10,7 @@ use Rattle.machine.specs.Fee.{charged}
 use Rattle.machine.specs.Rules.{settle}
 use Rattle.machine.specs.Machine.{answer, plan, step}
 use Rattle.journal.specs.Runs.{nextBy, turnedOf, runOf}
-use Rattle.report.specs.Numbers.{spelled, decimal, closer, row}
+use Rattle.decimals.specs.Numbers.{spelled, decimal, closer, row}
 use Rattle.report.specs.Lines.{fields, linesFrom, endLine}
 use Rattle.report.specs.Statement.{noLines, runText, statementOf}
 use Rattle.report.specs.Examples.{Examples}

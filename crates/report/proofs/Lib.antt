@@ -1,7 +1,6 @@
--- Numbers as text; rows and lines; texts in a buffer; the run of a part; runs as text; the parts joined; printing them.
-pub mod Numerals
+-- Lines; texts in a buffer; the run of a part; runs as text; the parts joined; printing them.
 pub mod Examples
-pub mod Rows
+pub mod LineTexts
 pub mod Buffers
 pub mod Going
 pub mod RunTexts

@@ -1,7 +1,7 @@
 -- Document 01, "Journal and due list", with the fee of document 02, No. 7: the program's example. Each input and each text is written as one number.
 use mathlib.Core.Path.{_≡_}
 use Rattle.wire.specs.Numbers.{bytes}
-use Rattle.report.specs.Numbers.{decimal}
+use Rattle.decimals.specs.Numbers.{decimal}
 use Rattle.report.specs.Statement.{statementOf}
 
 pub record Examples : Type 0 where

@@ -1,5 +1,4 @@
 -- Document 01, "Journal and due list": the text of a statement, and the parts that it is printed in.
-pub mod Numbers
 pub mod Lines
 pub mod Statement
 pub mod Examples

@@ -2,7 +2,7 @@
 use Prim.Native.Nat.{ℕ, suc}
 use mathlib.Core.List.{List, [], _∷_, _++_}
 use Rattle.journal.specs.declared.lines.Line.{Line}
-use Rattle.report.specs.Numbers.{row}
+use Rattle.decimals.specs.Numbers.{row}
 
 -- A line holds its number, refusal, customer's cents, merchant's cents, chain steps, and the fee.
 unfoldable pub fields : ℕ → Line → List ℕ

@@ -1,6 +1,5 @@
 // The text of a statement, part by part. Only the statement program calls it.
 mod lines;
-mod numbers;
 mod parts;
 mod texts;
 

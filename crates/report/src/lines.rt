@@ -1,12 +1,12 @@
 // The lines of a statement, as text.
-use crate::numbers::put_row;
+use decimals::put_row;
 use journal::Line;
 use wire::copy_into;
 ghost use mathlib.Core.Path.{_≡_};
 ghost use Prim.Native.Nat.{_+_, _*_, _^_, _<_, _≤_};
 ghost use lib.ListN.{length, take};
 ghost use Rattle.wire.specs.Parts.{pasted};
-ghost use Rattle.report.specs.Numbers.{row};
+ghost use Rattle.decimals.specs.Numbers.{row};
 ghost use Rattle.report.specs.Lines.{fields, linesFrom, endLine};
 
 // Number, refusal, paid to the customer, paid to the merchant, chain steps, fee.

@@ -1,6 +1,6 @@
 use native.Mathlib.Omega.{arith}
 use borrow.Author.Needs.{needs}
-use Rattle.report.proofs.Rows.{end-put}
+use Rattle.report.proofs.LineTexts.{end-put}
 use Rattle.report.proofs.lines.put_end.Statement.{statement}
 use Rattle.report.proofs.lines.put_end.Tie as tie
 

@@ -7,7 +7,7 @@ use borrow.Author.Needs.{needs}
 use lib.ListN.{length, take, drop}
 use Rattle.wire.proofs.Pasting.{Towards, at-first, and-then, at-last}
 use Rattle.report.specs.Lines.{linesFrom}
-use Rattle.report.proofs.Rows.{lines-split, no-lines-left}
+use Rattle.report.proofs.LineTexts.{lines-split, no-lines-left}
 use Rattle.report.proofs.lines.put_lines.Statement.{statement}
 use Rattle.report.proofs.lines.put_lines.Tie as tie
 

@@ -1,0 +1,3 @@
+-- Numbers as text; rows of them.
+pub mod Numerals
+pub mod Rows

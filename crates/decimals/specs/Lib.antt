@@ -1,0 +1,2 @@
+-- Document 01, "Journal and due list": numbers in a row, as text.
+pub mod Numbers
