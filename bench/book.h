@@ -1,4 +1,5 @@
-// A C baseline of the commands without a signature: 01 to 04 and 0A, in place on the lent book, after the same test of soundness; and of the run.
+// A C baseline of the commands without a signature: 01 to 04 and 0A, in place on the lent book, after the same test of soundness; of 07 and 08 to an open
+// channel, whose signatures it takes for good; and of the run.
 #include "../include/finaruvom.h"
 
 struct finaruvom_answer plain_apply(struct finaruvom_book *book, const uint8_t *command, size_t n);

@@ -1,4 +1,4 @@
-// Written from documents 01 and 02 (No. 1, 2 and 7), as a program in C would have it: no copy of the book.
+// Written from documents 01 and 02 (No. 1, 2, 5, 7 and 8), as a program in C would have it: no copy of the book.
 #include "book.h"
 #include <string.h>
 
@@ -22,8 +22,15 @@ static bool sound_channel(const struct finaruvom_channel *ch) {
     return ch->status <= 6 && c <= MOST && b <= MOST - c && delay_fits(ch->delay) && (ch->status != 5 || ch->kept <= c + b);
 }
 
+static bool sound_setup(const struct finaruvom_setup *setup) {
+    bool ok = delay_fits(setup->delay) && setup->fee <= 1000 && setup->dated <= 1 && setup->count <= 64;
+    for (uint32_t i = 0; ok && i < setup->count; i++)
+        ok = setup->days[i] < 157054 && (i == 0 || setup->days[i] > setup->days[i - 1]);
+    return ok;
+}
+
 static bool sound(const struct finaruvom_book *book) {
-    bool ok = book->mark == MARK && delay_fits(book->setup.delay) && book->setup.fee <= 1000 && book->clock <= MOST;
+    bool ok = book->mark == MARK && sound_setup(&book->setup) && book->clock <= MOST;
     for (int i = 0; i < 64; i++)
         ok &= sound_channel(&book->channels[i]);
     return ok;
@@ -63,6 +70,41 @@ static uint32_t fund(struct finaruvom_channel *ch, uint8_t op, uint64_t cents) {
 
 static struct finaruvom_answer refuse(uint32_t refusal) {
     return (struct finaruvom_answer){.refusal = refusal};
+}
+
+static bool weekend(uint64_t day) {
+    return day % 7 == 2 || day % 7 == 3;
+}
+
+// A deadline, at 00:00:00 of the next day that is not shut where its own is.
+static uint64_t moved(const struct finaruvom_setup *setup, uint64_t deadline) {
+    uint64_t day = deadline / 86400;
+    for (uint32_t i = 0; setup->dated != 0; day++) {
+        while (i < setup->count && setup->days[i] < day)
+            i++;
+        if (!weekend(day) && (i == setup->count || setup->days[i] != day))
+            break;
+    }
+    return day == deadline / 86400 ? deadline : day * 86400;
+}
+
+static struct finaruvom_answer close_by(struct finaruvom_channel *ch, const uint8_t *s, const struct finaruvom_book *book) {
+    struct finaruvom_answer answer = {0};
+    if (ch->status != 3)
+        return refuse(5);
+    if (s[0] == 7) {
+        uint64_t c = number(s + 35, 8), b = number(s + 43, 8), total = ch->customer.deposit + ch->merchant.deposit;
+        if (c > total || b != total - c)
+            return refuse(8);
+        answer.fee = (uint64_t)((unsigned __int128)b * book->setup.fee / 10000);
+        answer.merchant = b - answer.fee;
+        ch->kept = c;
+        memcpy(ch->lock, s + 3, 32);
+    }
+    ch->leaves.first = ch->leaves.second = (uint32_t)number(s + (s[0] == 7 ? 51 : 3), 4);
+    ch->deadline = moved(&book->setup, book->clock + ch->delay);
+    ch->status = s[0] == 7 ? 5 : 4;
+    return answer;
 }
 
 static struct finaruvom_answer settle(struct finaruvom_channel *ch, uint64_t clock, uint32_t fee) {
@@ -106,6 +148,8 @@ struct finaruvom_answer plain_apply(struct finaruvom_book *book, const uint8_t *
         return refuse(establish(ch, command, book->setup.delay));
     if (op == 3 || op == 4)
         return refuse(fund(ch, op, number(command + 3, 8)));
+    if (op == 7 || op == 8)
+        return close_by(ch, command, book);
     return op == 10 ? settle(ch, book->clock, book->setup.fee) : refuse(5);
 }
 

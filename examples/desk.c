@@ -9,6 +9,10 @@
 // The fee is in ten-thousandths of what the merchant is paid: 2.5 in a hundred.
 enum { INPUT = 65536, COMMANDS = INPUT / 3, BATCH = 8, FEE = 250 };
 
+// Bank holidays, beside the weekends. Channel 1 is closed on Tuesday 2026-11-03 with two days to answer: the Thursday is shut, so it has until Friday 00:00:00.
+static const uint32_t holidays[] = {20261105, 20261225, 20261228};
+static const size_t holidays_n = sizeof holidays / sizeof holidays[0];
+
 static uint8_t input[INPUT + 1]; // one byte more tells a journal that is too long
 static size_t input_n;
 static struct finaruvom_book book;
@@ -42,18 +46,22 @@ static void read_input(const char *path) {
     must(input_n >= FINARUVOM_ID_SIZE && input_n <= INPUT, "no book id, or a journal that is too long");
 }
 
-// A new book of the desk's: a till's delay of 0 stands for two days in it, and it has the fee that was agreed.
+// A new book of the desk's: a till's delay of 0 stands for two days in it, it has the fee that was agreed, and no deadline on a day when the bank is shut.
 static void open_new(struct finaruvom_book *lent) {
     struct finaruvom_settings settings = finaruvom_desk_settings();
     settings.fee = FEE;
-    must(finaruvom_open_with(lent, input, FINARUVOM_ID_SIZE, settings) == FINARUVOM_ACCEPTED, "the opening was refused");
+    settings.dated = true;
+    must(finaruvom_open_with(lent, input, FINARUVOM_ID_SIZE, settings, holidays, holidays_n) == FINARUVOM_ACCEPTED, "the opening was refused");
 }
 
-// What the desk knows of a channel, and which one is due next.
+// What the desk knows of a channel after a command: also the deadline of a closing that was just filed, where it was moved, and which channel is due next.
 static void show(size_t n) {
     struct finaruvom_reading r = finaruvom_read(&book, n);
     must(r.refusal == FINARUVOM_ACCEPTED, "an unsound book");
     printf("    channel %zu: status %" PRIu32 ", held %" PRIu64 " of %" PRIu64 ", deadline %" PRIu64, n, r.status, r.held, r.total, r.deadline);
+    uint64_t unmoved = book.clock + book.channels[n].delay;
+    if (r.deadline != 0 && r.deadline != unmoved)
+        printf(", moved from %" PRIu64 " by %" PRIu64 " hours", unmoved, (r.deadline - unmoved) / 3600);
     struct finaruvom_found due = finaruvom_due(&book);
     if (due.some)
         printf("; due next: channel %u\n", due.channel);
@@ -88,7 +96,7 @@ static void file_all(void) {
     }
 }
 
-// After a crash: a book opened with the same id and settings, and the journal run again, so many lines at a time. Answers and book are the same.
+// After a crash: a book opened with the same id, settings and dates, and the journal run again, so many lines at a time. Answers and book are the same.
 static void recover(void) {
     static struct finaruvom_book again;
     struct finaruvom_line lines[BATCH];
@@ -106,23 +114,32 @@ static void recover(void) {
     printf("run again: %zu lines, the same answers and the same book\n", line);
 }
 
-// A refused command, and refused openings, leave every byte of the book.
+// An opening that is refused leaves every byte of the book.
+static void refuse_opening(struct finaruvom_settings settings, const uint32_t *dates, size_t dates_n, uint32_t refusal, const char *with) {
+    struct finaruvom_book before = book;
+    uint32_t is = finaruvom_open_with(&book, input, FINARUVOM_ID_SIZE, settings, dates, dates_n);
+    must(is == refusal && memcmp(&before, &book, sizeof book) == 0, "a refused opening left a trace");
+    printf("an opening with %s: refused with %" PRIu32 ", and every byte stays\n", with, is);
+}
+
+// So does a refused command.
 static void refuse(void) {
     static const uint8_t settle[] = {0x0a, 0, FINARUVOM_CHANNELS};
+    static const uint32_t dates[] = {20261228, 20261225, 20260229};
     struct finaruvom_book before = book;
-    struct finaruvom_settings settings = finaruvom_plain_settings();
     struct finaruvom_answer a = finaruvom_apply(&book, settle, sizeof settle);
     must(a.refusal == FINARUVOM_CHANNEL && memcmp(&before, &book, sizeof book) == 0, "a refused command left a trace");
     puts("a settle of channel 64, which no book has: refused with 4, and every byte stays");
+    struct finaruvom_settings settings = finaruvom_plain_settings();
     settings.delay = FINARUVOM_SHORTEST_DELAY - 1;
-    uint32_t refusal = finaruvom_open_with(&book, input, FINARUVOM_ID_SIZE, settings);
-    must(refusal == FINARUVOM_SETTINGS_DELAY && memcmp(&before, &book, sizeof book) == 0, "a refused opening left a trace");
-    puts("an opening with a default delay of 3,599 seconds: refused with 14, and every byte stays");
+    refuse_opening(settings, dates, 0, FINARUVOM_SETTINGS_DELAY, "a default delay of 3,599 seconds");
     settings = finaruvom_desk_settings();
     settings.fee = FINARUVOM_HIGHEST_FEE + 1;
-    refusal = finaruvom_open_with(&book, input, FINARUVOM_ID_SIZE, settings);
-    must(refusal == FINARUVOM_SETTINGS_FEE && memcmp(&before, &book, sizeof book) == 0, "a refused opening left a trace");
-    puts("an opening with a fee of 1,001 ten-thousandths: refused with 20, and every byte stays");
+    refuse_opening(settings, dates, 0, FINARUVOM_SETTINGS_FEE, "a fee of 1,001 ten-thousandths");
+    settings = finaruvom_desk_settings();
+    settings.dated = true;
+    refuse_opening(settings, dates, 3, FINARUVOM_SETTINGS_DATE, "29 February 2026 among its dates");
+    refuse_opening(settings, dates, 2, FINARUVOM_SETTINGS_DATES, "a date behind a later one");
 }
 
 // A book that was damaged where it shows, and one of another layout: every call says so.

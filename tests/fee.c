@@ -10,6 +10,7 @@ enum { INPUT = 65536, COMMANDS = INPUT / 3, FEE_AT = 28, N = 5, CLOCK = 5000, ID
 static const uint8_t id[ID + 1] = {7, 1}, settle[] = {10, 0, N};
 static const uint32_t higher[] = {1001, 10000, ((uint32_t)1 << 16) + 250, (uint32_t)1 << 31, UINT32_MAX};
 static const uint64_t edges[] = {0, 1, 9, 10, 11, 9999, 10000, 10001, UINT64_MAX / 1000, UINT64_MAX / 1000 + 1, INT64_MAX - 1, INT64_MAX};
+static const uint32_t no_dates[1];
 static struct finaruvom_book book, before;
 
 static void must(bool holds, const char *what) {
@@ -24,8 +25,9 @@ static uint64_t fee_of(uint64_t amount, uint32_t fee) {
     return (uint64_t)((unsigned __int128)amount * fee / 10000);
 }
 
+// An opening with this default delay and fee, and no list of dates.
 static uint32_t open_with(struct finaruvom_book *lent, size_t id_n, uint32_t delay, uint32_t fee) {
-    return finaruvom_open_with(lent, id, id_n, (struct finaruvom_settings){delay, fee});
+    return finaruvom_open_with(lent, id, id_n, (struct finaruvom_settings){.delay = delay, .fee = fee}, no_dates, 0);
 }
 
 // A fee in range stands in the fresh book, by its literal place, and all else is as in the plain one, which has none.
@@ -209,8 +211,10 @@ static void run(const char *path) {
     must(journal != NULL, "no journal");
     size_t n = fread(input, 1, sizeof input, journal), at = ID;
     must(fclose(journal) == 0 && n >= at && finaruvom_open(&plain, input, ID) == FINARUVOM_ACCEPTED, "no book");
-    for (size_t i = 0; i < BESIDE; i++)
-        must(finaruvom_open_with(&books[i], input, ID, (struct finaruvom_settings){DAY, fees[i]}) == FINARUVOM_ACCEPTED, "no book");
+    for (size_t i = 0; i < BESIDE; i++) {
+        must(open_with(&books[i], ID, DAY, fees[i]) == FINARUVOM_ACCEPTED, "no book");
+        memcpy(books[i].id, input, ID);
+    }
     memset(deposits, 0, sizeof deposits);
     memset(paid, 0, sizeof paid);
     filed_n = wanted_n = 0;

@@ -1,15 +1,17 @@
 // How often each call copies the book, the signer or the list, and how much stack it takes, held to limits: a command copies the book out of the lender's
-// memory and back, and no more, a list is not copied, and the stack is what the header says. A further copy that the compiler wrote without a call would
-// show on the stack. With --short it makes no key, which takes seconds.
+// memory and back, and no more, an opening copies it in, a list is not copied, and the stack is what the header says. A further copy that the compiler wrote
+// without a call would show on the stack. With --short it makes no key, which takes seconds.
 #define _XOPEN_SOURCE 700
 #include "../bench/copied.h"
+#include "../bench/dates.h"
+#include "../bench/fitted.h"
 #include <stdio.h>
 #include <stdlib.h>
 #include <string.h>
 #include <ucontext.h>
 
 enum { N = 5, CLOCK = 1000, FEE = 250, STACK = 1 << 19, PAINT = 0xA5, MUTUAL = 5, MAKING_COPIES = 1, SIGNING_COPIES = 3 };
-enum { SETTLES = 1024, PAYMENTS = 2 * SETTLES };
+enum { SETTLES = 1024, PAYMENTS = 2 * SETTLES, DATES = 1000, MOVED = DAY_BEHIND * 86400 };
 
 // What a call is lent, how often it copies that at most, and how many bytes it copies in all; a key making copies some 780 for each leaf.
 struct lent {
@@ -17,6 +19,7 @@ struct lent {
     size_t copies, bytes;
 };
 static const struct lent lent_book = {"book", 2, 2 * FINARUVOM_BOOK_SIZE + 4096};
+static const struct lent lent_to_open = {"book", 1, FINARUVOM_BOOK_SIZE + 4096};
 static const struct lent lent_to_make = {"signer", MAKING_COPIES, MAKING_COPIES * FINARUVOM_SIGNER_SIZE + 800 * FINARUVOM_LEAVES};
 static const struct lent lent_to_sign = {"signer", SIGNING_COPIES, SIGNING_COPIES * FINARUVOM_SIGNER_SIZE + 4096};
 static const struct lent lent_list = {"list", 0, 4096};
@@ -29,7 +32,17 @@ static struct finaruvom_answer answer;
 static struct finaruvom_line lines[3];
 static struct finaruvom_ran ran;
 
-// A command of each kind on a full book with a fee, and refusals. A signature that is refused with 11 or 12 was walked to its end.
+// The first 64 days of 1970, then dates that do not rise and, last of all, one that does not exist.
+static uint32_t dates[DATES];
+
+static void list_dates(void) {
+    first_days(dates);
+    for (size_t i = FINARUVOM_MOST_DATES; i < DATES - 1; i++)
+        dates[i] = 19700101;
+}
+
+// A command of each kind on a full book with a fee and 64 dates, and refusals. A signature that is refused with 11 or 12 was walked to its end; one that fits
+// its key passes, and the closing's deadline, of the first of these dates, is moved past the last.
 static const struct row {
     const char *name;
     uint8_t op;
@@ -37,6 +50,7 @@ static const struct row {
     uint64_t deadline;
     size_t size, cents_at, signature_at; // 0: it has none
     uint64_t first, second, fee;
+    bool fits;
 } rows[] = {
     {"01 clock", .op = 1, .size = 9, .status = 3, .cents_at = 1, .first = CLOCK + 1},
     {"02 establish", .op = 2, .size = 135, .status = 0, .cents_at = 115, .first = 900, .second = 100},
@@ -46,6 +60,8 @@ static const struct row {
     {"06 mutual close", .op = 6, .size = 2923, .status = 3, .cents_at = 3, .first = 400, .second = 600, .signature_at = 19, .refusal = 11},
     {"07 customer closes", .op = 7, .size = 2955, .status = 3, .cents_at = 35, .first = 700, .second = 300, .signature_at = 51, .refusal = 11},
     {"08 merchant closes", .op = 8, .size = 1455, .status = 3, .signature_at = 3, .refusal = 11},
+    {"07 that passes", .op = 7, .size = 2955, .status = 3, .cents_at = 35, .first = 700, .second = 300, .signature_at = 51, .fee = 7, .fits = true},
+    {"08 that passes", .op = 8, .size = 1455, .status = 3, .signature_at = 3, .fits = true},
     {"09 dispute", .op = 9, .size = 1487, .status = 5, .deadline = CLOCK + 1, .signature_at = 35, .refusal = 11},
     {"0A settle", .op = 10, .size = 3, .status = 5, .deadline = CLOCK},
     {"0A settle with a fee", .op = 10, .size = 3, .status = 4, .deadline = CLOCK, .fee = 25},
@@ -60,10 +76,10 @@ static void typed(uint8_t *key, uint8_t last) {
     key[55] = last;
 }
 
-// A book whose 64 channels are all in this status.
+// A book with 64 dates, whose 64 channels are all in this status.
 static void fill(uint32_t status, uint64_t deadline) {
     static const uint8_t id[16] = {7}, secret[32] = {0};
-    if (finaruvom_open_with(&book, id, 16, (struct finaruvom_settings){FINARUVOM_PLAIN_DELAY, FEE}) != 0)
+    if (finaruvom_open_with(&book, id, 16, (struct finaruvom_settings){FINARUVOM_PLAIN_DELAY, FEE, true}, dates, FINARUVOM_MOST_DATES) != 0)
         exit(1);
     book.clock = CLOCK;
     for (int i = 0; i < 64; i++) {
@@ -76,12 +92,6 @@ static void fill(uint32_t status, uint64_t deadline) {
         if (finaruvom_hash(secret, 32, ch->lock) != 0)
             exit(1);
     }
-}
-
-// A signature of the right form, which no key accepts: its chains are all walked.
-static void sign(uint8_t *s) {
-    s[7] = 4;
-    s[1131] = 6;
 }
 
 static void cents(uint8_t *s, uint64_t x) {
@@ -102,8 +112,17 @@ static void file(const struct row *row) {
         typed(command + 3, 1);
         typed(command + 59, 2);
     }
-    if (row->signature_at != 0)
-        sign(command + row->signature_at);
+    for (size_t at = row->signature_at; at != 0 && at + FINARUVOM_SIGNATURE_SIZE <= row->size; at += FINARUVOM_SIGNATURE_SIZE)
+        form(command + at);
+}
+
+// Makes both keys of the channel fit the signatures of this command.
+static void fit_keys(size_t signature_at) {
+    uint8_t message[67];
+    message[0] = command[0];
+    memcpy(message + 1, book.id, 16), memcpy(message + 17, command + 1, signature_at - 1);
+    fit(book.channels[N].merchant.key, message, signature_at + 16, command + signature_at);
+    fit(book.channels[N].customer.key, message, signature_at + 16, command + signature_at);
 }
 
 static void apply(void) {
@@ -124,21 +143,26 @@ static void open_book(void) {
     answer.refusal = finaruvom_open(&book, id, 16);
 }
 
-// An opening with the desk's default, one whose default is refused, and one whose fee is.
-static void open_desk_book(void) {
-    static const uint8_t id[16] = {9};
-    answer.refusal = finaruvom_open_with(&book, id, 16, finaruvom_desk_settings());
-}
+// Openings with settings, which are lent so many of the dates.
+static const struct opening {
+    const char *name;
+    struct finaruvom_settings settings;
+    size_t dates;
+    uint32_t refusal;
+} openings[] = {
+    {"open with settings", {FINARUVOM_DESK_DELAY, FEE, false}, DATES, 0},
+    {"open with no date", {FINARUVOM_DESK_DELAY, FEE, true}, 0, 0},
+    {"open with 64 dates", {FINARUVOM_DESK_DELAY, FEE, true}, FINARUVOM_MOST_DATES, 0},
+    {"open refused with 14", {0, FEE, true}, DATES, 14},
+    {"open refused with 20", {FINARUVOM_PLAIN_DELAY, FINARUVOM_HIGHEST_FEE + 1, true}, DATES, 20},
+    {"open refused with 21", {FINARUVOM_PLAIN_DELAY, FEE, true}, DATES, 21},
+    {"open refused with 22", {FINARUVOM_PLAIN_DELAY, FEE, true}, DATES - 1, 22},
+};
+static const struct opening *opening;
 
-static void open_without_default(void) {
+static void open_with_settings(void) {
     static const uint8_t id[16] = {9};
-    answer = (struct finaruvom_answer){.refusal = finaruvom_open_with(&book, id, 16, (struct finaruvom_settings){0})};
-}
-
-static void open_with_a_higher_fee(void) {
-    static const uint8_t id[16] = {9};
-    static const struct finaruvom_settings settings = {FINARUVOM_PLAIN_DELAY, FINARUVOM_HIGHEST_FEE + 1};
-    answer = (struct finaruvom_answer){.refusal = finaruvom_open_with(&book, id, 16, settings)};
+    answer = (struct finaruvom_answer){.refusal = finaruvom_open_with(&book, id, 16, opening->settings, dates, opening->dates)};
 }
 
 static void read_channel(void) {
@@ -242,9 +266,11 @@ static void keeps_no_list(size_t check_took) {
 
 static uint32_t refusal;
 static uint64_t fee;
+static bool fits;
 
 static bool refused(void) {
-    return answer.refusal == refusal && answer.fee == fee && (answer.steps != 0) == (refusal == 11 || refusal == 12);
+    return answer.refusal == refusal && answer.fee == fee && (answer.steps != 0) == (fits || refusal == 11 || refusal == 12) &&
+           (!fits || book.channels[N].deadline == MOVED);
 }
 
 static bool ran_all(void) {
@@ -304,18 +330,37 @@ static void bank(void) {
     measure_bank("read refused with 19", read_payments, 19);
 }
 
-int main(int argc, char **argv) {
-    bool makes = argc < 2 || strcmp(argv[1], "--short") != 0;
-    size_t first = stack_of(open_book);
-    binding = first - stack_of(open_book);
-    printf("a first call takes %zu bytes of stack more\n", binding);
+// Every command of the table, each on a book of its own.
+static void commands(void) {
     for (size_t i = 0; i < sizeof rows / sizeof rows[0]; i++) {
         const struct row *row = &rows[i];
         fill(row->status, row->deadline);
         file(row);
-        refusal = row->refusal, fee = row->fee;
+        if (row->fits)
+            fit_keys(row->signature_at);
+        refusal = row->refusal, fee = row->fee, fits = row->fits;
         measure(row->name, apply, refused, 1, FINARUVOM_STACK_APPLY);
     }
+    fits = false;
+}
+
+// An opening copies the fresh book in, and one that is refused copies the lent book out and back.
+static void open_books(void) {
+    measure_lent(&lent_to_open, "open", open_book, answered_0, 1, FINARUVOM_STACK_OPEN);
+    for (size_t i = 0; i < sizeof openings / sizeof openings[0]; i++) {
+        opening = &openings[i];
+        refusal = opening->refusal, fee = 0;
+        measure_lent(refusal == 0 ? &lent_to_open : &lent_book, opening->name, open_with_settings, refused, 1, FINARUVOM_STACK_OPEN);
+    }
+}
+
+int main(int argc, char **argv) {
+    bool makes = argc < 2 || strcmp(argv[1], "--short") != 0;
+    list_dates();
+    size_t first = stack_of(open_book);
+    binding = first - stack_of(open_book);
+    printf("a first call takes %zu bytes of stack more\n", binding);
+    commands();
     fill(5, CLOCK);
     measure("a run, each settle", run, ran_all, 3, FINARUVOM_STACK_RUN);
     fill(3, 0);
@@ -326,12 +371,7 @@ int main(int argc, char **argv) {
     fill(5, CLOCK);
     measure("read", read_channel, answered_0, 1, FINARUVOM_STACK_READ);
     measure("due", due, answered_0, 1, FINARUVOM_STACK_DUE);
-    measure("open", open_book, answered_0, 1, FINARUVOM_STACK_OPEN);
-    measure("open with settings", open_desk_book, answered_0, 1, FINARUVOM_STACK_OPEN);
-    refusal = 14;
-    measure("open refused with 14", open_without_default, refused, 1, FINARUVOM_STACK_OPEN);
-    refusal = 20;
-    measure("open refused with 20", open_with_a_higher_fee, refused, 1, FINARUVOM_STACK_OPEN);
+    open_books();
     signers(makes);
     bank();
     return wrong;

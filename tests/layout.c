@@ -10,9 +10,9 @@ SIZE(party, 64); AT(party, key, 0); AT(party, deposit, 56);
 SIZE(leaves, 8); AT(leaves, first, 0); AT(leaves, second, 4);
 SIZE(channel, 192); AT(channel, customer, 0); AT(channel, merchant, 64); AT(channel, deadline, 128); AT(channel, kept, 136);
 AT(channel, delay, 144); AT(channel, status, 148); AT(channel, lock, 152); AT(channel, leaves, 184);
-SIZE(setup, 8); AT(setup, delay, 0); AT(setup, fee, 4);
-SIZE(book, 12328); AT(book, mark, 0); AT(book, id, 8); AT(book, setup, 24); AT(book, clock, 32); AT(book, channels, 40);
-SIZE(settings, 8); AT(settings, delay, 0); AT(settings, fee, 4);
+SIZE(setup, 272); AT(setup, delay, 0); AT(setup, fee, 4); AT(setup, days, 8); AT(setup, count, 264); AT(setup, dated, 268);
+SIZE(book, 12592); AT(book, mark, 0); AT(book, id, 8); AT(book, setup, 24); AT(book, clock, 296); AT(book, channels, 304);
+SIZE(settings, 12); AT(settings, delay, 0); AT(settings, fee, 4); AT(settings, dated, 8);
 SIZE(answer, 32); AT(answer, customer, 0); AT(answer, merchant, 8); AT(answer, steps, 16); AT(answer, refusal, 20); AT(answer, fee, 24);
 SIZE(line, 32); AT(line, answer, 0);
 SIZE(reading, 72); AT(reading, total, 0); AT(reading, held, 8); AT(reading, deadline, 16); AT(reading, kept, 24);
@@ -25,21 +25,25 @@ _Static_assert(FINARUVOM_ENTRY_SIZE == 11, "entry");
 _Static_assert(FINARUVOM_LARGEST_AMOUNT == 999999999999999, "largest amount");
 _Static_assert(FINARUVOM_HIGHEST_FEE == 1000, "highest fee");
 _Static_assert(FINARUVOM_SETTINGS_FEE == 20, "refusal of a fee");
+_Static_assert(FINARUVOM_MOST_DATES == 64, "most dates");
+_Static_assert(FINARUVOM_DAYS == 157054, "days");
+_Static_assert(FINARUVOM_SETTINGS_DATE == 21, "refusal of a date");
+_Static_assert(FINARUVOM_SETTINGS_DATES == 22, "refusal of a list of dates");
 SIZE(versions, 16); AT(versions, major, 0); AT(versions, minor, 4); AT(versions, patch, 8); AT(versions, layout, 12);
 SIZE(node, 32); AT(node, value, 0);
 SIZE(signer, 65628); AT(signer, key, 0); AT(signer, seed, 56); AT(signer, next, 88); AT(signer, nodes, 92);
 SIZE(signature, 1456); AT(signature, refusal, 0); AT(signature, bytes, 4);
 
-// The sizes of the fields add up to the struct's: there is no padding.
+// The sizes of the fields add up to the struct's: there is no padding but three bytes behind the settings' flag.
 #define OF(type, field) sizeof(((struct finaruvom_##type *)0)->field)
 #define FILLED(type, fields) _Static_assert(sizeof(struct finaruvom_##type) == (fields), #type " has padding")
 FILLED(party, OF(party, key) + OF(party, deposit));
 FILLED(leaves, OF(leaves, first) + OF(leaves, second));
 FILLED(channel, OF(channel, customer) + OF(channel, merchant) + OF(channel, deadline) + OF(channel, kept) + OF(channel, delay) +
                     OF(channel, status) + OF(channel, lock) + OF(channel, leaves));
-FILLED(setup, OF(setup, delay) + OF(setup, fee));
+FILLED(setup, OF(setup, delay) + OF(setup, fee) + OF(setup, days) + OF(setup, count) + OF(setup, dated));
 FILLED(book, OF(book, mark) + OF(book, id) + OF(book, setup) + OF(book, clock) + OF(book, channels));
-FILLED(settings, OF(settings, delay) + OF(settings, fee));
+FILLED(settings, OF(settings, delay) + OF(settings, fee) + OF(settings, dated) + 3);
 FILLED(answer, OF(answer, customer) + OF(answer, merchant) + OF(answer, steps) + OF(answer, refusal) + OF(answer, fee));
 FILLED(line, OF(line, answer));
 FILLED(reading, OF(reading, total) + OF(reading, held) + OF(reading, deadline) + OF(reading, kept) + OF(reading, refusal) +
@@ -101,9 +105,10 @@ static void opened(void) {
     same("id", &book, 8, id, 16);
     number("the plain default", &book, 24, 86400, 4);
     number("the plain fee", &book, 28, 0, 4);
-    number("clock", &book, 32, 0, 8);
     memset(&other, 0, sizeof other);
-    same("a channel's zeros", &book, 40, &other, sizeof book - 40);
+    same("the plain list's zeros", &book, 32, &other, 264);
+    number("clock", &book, 296, 0, 8);
+    same("a channel's zeros", &book, 304, &other, sizeof book - 304);
 }
 
 // An 02 for channel 3, with this delay.
@@ -116,10 +121,11 @@ static void establish(uint8_t s[135], uint32_t delay) {
     big_endian(s + 115, 900, 8), big_endian(s + 123, 100, 8), big_endian(s + 131, delay, 4);
 }
 
-// An opening of the book, whatever stands there, with this default delay and fee.
+// An opening of the book, whatever stands there, with this default delay and fee, and no list of dates.
 static uint32_t open_with(size_t id_n, uint32_t delay, uint32_t fee) {
     static const uint8_t id[17] = {9};
-    return finaruvom_open_with(&book, id, id_n, (struct finaruvom_settings){delay, fee});
+    static const uint32_t none[1];
+    return finaruvom_open_with(&book, id, id_n, (struct finaruvom_settings){.delay = delay, .fee = fee}, none, 0);
 }
 
 // A default and a fee in range stand in the fresh book, and the default is the delay of an 02 that has 0.
@@ -129,10 +135,10 @@ static void opened_with(uint32_t delay, uint32_t fee) {
     answers("an opening with a default and a fee in range", open_with(16, delay, fee), 0);
     number("the default given", &book, 24, delay, 4);
     number("the fee given", &book, 28, fee, 4);
-    number("clock", &book, 32, 0, 8);
+    number("clock", &book, 296, 0, 8);
     establish(s, 0);
     answers("an 02 with a delay of 0", finaruvom_apply(&book, s, sizeof s).refusal, 0);
-    number("the default read", &book, 40 + 3 * 192 + 144, delay, 4);
+    number("the default read", &book, 304 + 3 * 192 + 144, delay, 4);
 }
 
 // A refused opening leaves every byte of the lent book.
@@ -149,8 +155,8 @@ static void settings(void) {
     static const uint32_t taken[] = {3600, 2592000, 172800, 86400}, refused[] = {3599, 2592001, 0, 0xFFFFFFFF};
     static const uint32_t fees[] = {0, 1000, 1, 250}, higher[] = {1001, 10000, 0x10000, 0xFFFFFFFF};
     struct finaruvom_settings plain = finaruvom_plain_settings(), desk = finaruvom_desk_settings();
-    number("the plain settings", &plain, 0, 86400, 8);
-    number("the desk's settings", &desk, 0, 172800, 8);
+    number("the plain settings", &plain, 0, 86400, 8), number("the plain settings' flag", &plain, 8, 0, 1);
+    number("the desk's settings", &desk, 0, 172800, 8), number("the desk's settings' flag", &desk, 8, 0, 1);
     for (int i = 0; i < 4; i++) {
         opened_with(taken[i], fees[i]);
         not_opened("an opening with a default out of range", 16, refused[i], fees[i], 14);
@@ -162,16 +168,34 @@ static void settings(void) {
     }
 }
 
+// The day numbers of the dates given stand in the fresh book, zeros behind them, then their number and 1; dates that are refused leave every byte.
+static void dated(void) {
+    static const uint8_t id[16] = {9}, zeros[248];
+    static const uint32_t dates[] = {19700102, 23991231, 24000101};
+    static const struct finaruvom_settings listed = {.delay = 3600, .fee = 250, .dated = true};
+    static struct finaruvom_book before;
+    memset(&book, 0xAA, sizeof book);
+    answers("an opening with dates", finaruvom_open_with(&book, id, sizeof id, listed, dates, 2), 0);
+    number("default and fee beside dates", &book, 24, 3600 | (uint64_t)250 << 32, 8);
+    number("the first day", &book, 32, 1, 4), number("the second day", &book, 36, 157053, 4);
+    same("zeros behind the days", &book, 40, zeros, sizeof zeros);
+    number("the number of days", &book, 288, 2, 4), number("dated", &book, 292, 1, 4), number("clock", &book, 296, 0, 8);
+    before = book;
+    answers("an opening with a date that is outside", finaruvom_open_with(&book, id, sizeof id, listed, dates, 3), 21);
+    answers("an opening with dates that do not rise", finaruvom_open_with(&book, id, sizeof id, listed, (const uint32_t[]){20261225, 20261225}, 2), 22);
+    same("each byte of a book that was not opened", &book, 0, &before, sizeof book);
+}
+
 // A clock command and an 02 for channel 3.
 static void established(void) {
     uint8_t clock[9] = {1}, s[135];
     big_endian(clock + 1, 0x0123456789ABCDEF, 8);
     answers("a clock command", finaruvom_apply(&book, clock, sizeof clock).refusal, 0);
-    number("clock", &book, 32, 0x0123456789ABCDEF, 8);
+    number("clock", &book, 296, 0x0123456789ABCDEF, 8);
     establish(s, 3601);
     struct finaruvom_answer answer = finaruvom_apply(&book, s, sizeof s);
     number("refusal", &answer, 20, 0, 4);
-    const size_t at = 40 + 3 * 192;
+    const size_t at = 304 + 3 * 192;
     same("the customer's key", &book, at, s + 3, 56);
     number("the customer's deposit", &book, at + 56, 900, 8);
     same("the merchant's key", &book, at + 64, s + 59, 56);
@@ -270,6 +294,7 @@ static void bank_lines(void) {
 int main(void) {
     version();
     settings();
+    dated();
     opened();
     established();
     closing();
@@ -277,6 +302,6 @@ int main(void) {
     signing();
     not_made();
     bank_lines();
-    puts("ok: every field stands where the header says, and no struct has padding");
+    puts("ok: every field stands where the header says, and no struct but the settings has padding");
     return 0;
 }

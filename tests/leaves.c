@@ -5,7 +5,7 @@
 #include <stdlib.h>
 #include <string.h>
 
-enum { INPUT = 65536, CHANNELS_AT = 40, CHANNEL = 192, STATUS_AT = 148, FIRST_AT = 184, SECOND_AT = 188 };
+enum { INPUT = 65536, CHANNELS_AT = 304, CHANNEL = 192, STATUS_AT = 148, FIRST_AT = 184, SECOND_AT = 188 };
 
 static struct finaruvom_book book, before;
 static unsigned closings, direct, answers, same_leaf, refused, disputes, zero;

@@ -127,6 +127,9 @@ uint32_t finaruvom_open(struct finaruvom_book *book, const uint8_t *id, size_t i
 #ifdef SOME_FEE
     book->setup.fee = refusal == FINARUVOM_ACCEPTED ? 250 : book->setup.fee;
 #endif
+#ifdef WITH_A_LIST
+    book->setup.dated = refusal == FINARUVOM_ACCEPTED ? 1 : book->setup.dated;
+#endif
 #ifdef ANOTHER_MARK
     book->mark += refusal == 0;
 #endif
@@ -134,20 +137,28 @@ uint32_t finaruvom_open(struct finaruvom_book *book, const uint8_t *id, size_t i
 }
 #endif
 
-#ifdef PLAIN_SETTINGS // THE_DESKS
+#ifdef PLAIN_SETTINGS
 struct finaruvom_settings finaruvom_plain_settings(void) {
+#ifdef WITH_A_LIST
+    return (struct finaruvom_settings){FINARUVOM_PLAIN_DELAY, 0, true};
+#else // THE_DESKS
     return finaruvom_desk_settings();
+#endif
 }
 #endif
 
-#ifdef DESK_SETTINGS // SOME_FEE
+#ifdef DESK_SETTINGS
 struct finaruvom_settings finaruvom_desk_settings(void) {
-    return (struct finaruvom_settings){FINARUVOM_DESK_DELAY, 250};
+#ifdef WITH_A_LIST
+    return (struct finaruvom_settings){FINARUVOM_DESK_DELAY, 0, true};
+#else // SOME_FEE
+    return (struct finaruvom_settings){FINARUVOM_DESK_DELAY, 250, false};
+#endif
 }
 #endif
 
 #ifdef OPEN_WITH
-uint32_t right(struct finaruvom_book *book, const uint8_t *id, size_t id_n, struct finaruvom_settings settings);
+uint32_t right(struct finaruvom_book *book, const uint8_t *id, size_t id_n, struct finaruvom_settings settings, const uint32_t *dates, size_t dates_n);
 
 // What is made of the settings before they are looked at.
 static inline struct finaruvom_settings other_settings(struct finaruvom_settings settings) {
@@ -176,8 +187,150 @@ static inline struct finaruvom_settings other_settings(struct finaruvom_settings
     return settings;
 }
 
-uint32_t finaruvom_open_with(struct finaruvom_book *book, const uint8_t *id, size_t id_n, struct finaruvom_settings settings) {
+static inline bool leap(uint32_t year) {
+#if defined EVERY_FOURTH_YEAR
+    return year % 4 == 0;
+#elif defined NO_400TH_YEAR
+    return year % 4 == 0 && year % 100 != 0;
+#else
+    return year % 4 == 0 && (year % 100 != 0 || year % 400 == 0);
+#endif
+}
+
+static inline uint32_t length_of(uint32_t year, uint32_t month) {
+#ifdef MONTHS_OF_31
+    (void)year, (void)month;
+    return 31;
+#else
+    return month == 2 ? 28u + leap(year) : month == 4 || month == 6 || month == 9 || month == 11 ? 30 : 31;
+#endif
+}
+
+static inline bool exists(uint32_t date) {
+    uint32_t year = date / 10000, month = date / 100 % 100, day = date % 100, last = 2399, first = 1970;
+#ifdef YEAR_2400
+    last = 2400;
+#endif
+#ifdef YEAR_1969
+    first = 1969;
+#endif
+#ifdef DAY_0
+    day += day == 0;
+#endif
+    return year >= first && year <= last && month >= 1 && month <= 12 && day >= 1 && day <= length_of(year, month);
+}
+
+static inline uint32_t day_of(uint32_t date) {
+    uint32_t day = date % 100 - 1;
+    for (uint32_t year = 1970; year < date / 10000; year++)
+        day += 365 + leap(year);
+    for (uint32_t month = 1; month < date / 100 % 100; month++)
+        day += length_of(date / 10000, month);
+#ifdef FROM_ONE
+    day++;
+#endif
+    return day;
+}
+
+static inline bool all_exist(const uint32_t *dates, size_t n) {
+#ifdef FIRST_64
+    n = n > FINARUVOM_MOST_DATES ? FINARUVOM_MOST_DATES : n;
+#endif
+#ifdef BUT_THE_LAST
+    n -= n > 1;
+#endif
+    for (size_t i = 0; i < n; i++)
+        if (!exists(dates[i]))
+            return false;
+    return true;
+}
+
+static inline bool rise(const uint32_t *dates, size_t n) {
+    size_t most = FINARUVOM_MOST_DATES;
+#ifdef SIXTY_FIVE
+    most = 65;
+#endif
+#ifdef SIXTY_THREE
+    most = 63;
+#endif
+#ifndef ANY_ORDER
+    for (size_t i = 1; i < n; i++)
+#ifdef EQUAL_DATES
+        if (dates[i] < dates[i - 1])
+#else
+        if (dates[i] <= dates[i - 1])
+#endif
+            return false;
+#endif
+    (void)dates;
+    return n <= most;
+}
+
+static inline uint32_t refusal_of(const uint32_t *dates, size_t n) {
+#ifdef ORDER_FIRST
+    return !rise(dates, n) ? FINARUVOM_SETTINGS_DATES : !all_exist(dates, n) ? FINARUVOM_SETTINGS_DATE : FINARUVOM_ACCEPTED;
+#else
+    return !all_exist(dates, n) ? FINARUVOM_SETTINGS_DATE : !rise(dates, n) ? FINARUVOM_SETTINGS_DATES : FINARUVOM_ACCEPTED;
+#endif
+}
+
+// Whether the dates are looked at.
+static inline bool looked_at(size_t id_n, struct finaruvom_settings settings) {
+    bool in_range = id_n == FINARUVOM_ID_SIZE && settings.delay >= FINARUVOM_SHORTEST_DELAY && settings.delay <= FINARUVOM_LONGEST_DELAY;
+#ifndef DATES_BEFORE_FEE
+    in_range = in_range && settings.fee <= FINARUVOM_HIGHEST_FEE;
+#endif
+#ifndef ANY_LIST
+    in_range = in_range && settings.dated;
+#endif
+    return in_range;
+}
+
+// Keeps the days of a list; `old` is what the lent book had.
+static inline void keep(struct finaruvom_setup *setup, const struct finaruvom_setup *old, bool dated, const uint32_t *dates, size_t n) {
+    (void)old, (void)dated;
+#ifdef EMPTY_IS_NONE
+    setup->dated = dated && n != 0;
+#endif
+#ifndef KEEPS_UNGIVEN
+    if (!dated)
+        return;
+#endif
+#ifdef LEAVES_DAYS
+    memcpy(setup->days, old->days, sizeof setup->days);
+#endif
+    setup->count = (uint32_t)(n > FINARUVOM_MOST_DATES ? FINARUVOM_MOST_DATES : n);
+    for (uint32_t i = 0; i < setup->count; i++)
+        setup->days[i] = day_of(dates[i]);
+}
+
+// An opening that looks at its dates and keeps them by the functions above.
+static inline uint32_t opened(struct finaruvom_book *book, const uint8_t *id, size_t id_n, struct finaruvom_settings settings, const uint32_t *dates,
+                              size_t dates_n) {
+    struct finaruvom_setup old = book->setup;
+    uint32_t refusal = looked_at(id_n, settings) ? refusal_of(dates, dates_n) : FINARUVOM_ACCEPTED;
+#ifdef KEEPS_ANYWAY
+    if (refusal != FINARUVOM_ACCEPTED)
+        book->setup.count = 0;
+#endif
+    if (refusal == FINARUVOM_ACCEPTED)
+        refusal = right(book, id, id_n, settings, dates, 0);
+    if (refusal == FINARUVOM_ACCEPTED)
+        keep(&book->setup, &old, settings.dated, dates, dates_n);
+    return refusal;
+}
+
+uint32_t finaruvom_open_with(struct finaruvom_book *book, const uint8_t *id, size_t id_n, struct finaruvom_settings settings, const uint32_t *dates,
+                             size_t dates_n) {
     settings = other_settings(settings);
+#ifdef COPIES
+    static struct finaruvom_book copy;
+    memcpy(&copy, book, sizeof copy);
+#endif
+#ifdef DEEP
+    volatile uint8_t room[2 * sizeof *book];
+    (void)room;
+#endif
 #ifdef FEE_BEFORE_ID
     if (settings.delay >= FINARUVOM_SHORTEST_DELAY && settings.delay <= FINARUVOM_LONGEST_DELAY && settings.fee > FINARUVOM_HIGHEST_FEE)
         return FINARUVOM_SETTINGS_FEE;
@@ -190,7 +343,7 @@ uint32_t finaruvom_open_with(struct finaruvom_book *book, const uint8_t *id, siz
     if (settings.delay < FINARUVOM_SHORTEST_DELAY)
         return FINARUVOM_SETTINGS_DELAY;
 #endif
-    uint32_t refusal = right(book, id, id_n, settings);
+    uint32_t refusal = opened(book, id, id_n, settings, dates, dates_n);
 #ifdef STORES_ANYWAY
     book->setup.delay = settings.delay;
 #endif
@@ -208,11 +361,54 @@ uint32_t finaruvom_open_with(struct finaruvom_book *book, const uint8_t *id, siz
 #define ANOTHER_DEFAULT(delay) ((delay) & 0xFFFFFF)
 #endif
 
-// A book whose fee, where it is out of range, is one in range.
+#if defined ANY_FEE || defined ANY_FLAG || defined ANY_COUNT || defined ANY_ORDER || defined ANY_EQUAL || defined ANY_DAY || defined ANY_UNLISTED || \
+    defined ALL_64
+#define MENDED
+#endif
+
+// How the days of a setup rise: 0 where they fall, 1 where some are equal, 2 where they rise strictly.
+static inline int rising(const struct finaruvom_setup *setup) {
+    int how = 2;
+    for (uint32_t i = 1; i < setup->count && i < FINARUVOM_MOST_DATES; i++)
+        how = setup->days[i] < setup->days[i - 1] ? 0 : setup->days[i] == setup->days[i - 1] && how != 0 ? 1 : how;
+    return how;
+}
+
+// A book whose fee or days, where they are out of range, are in range; or, with ALL_64, one whose days are all that stand there.
 static inline struct finaruvom_book mended(const struct finaruvom_book *book) {
     struct finaruvom_book mended = *book;
-    mended.setup.fee = book->setup.fee > FINARUVOM_HIGHEST_FEE ? FINARUVOM_HIGHEST_FEE : book->setup.fee;
+    struct finaruvom_setup *setup = &mended.setup;
+    (void)setup;
+#ifdef ANY_FEE
+    setup->fee = setup->fee > FINARUVOM_HIGHEST_FEE ? FINARUVOM_HIGHEST_FEE : setup->fee;
+#endif
+#ifdef ANY_FLAG
+    setup->dated = setup->dated > 1 ? 1 : setup->dated;
+#endif
+#ifdef ANY_COUNT
+    setup->count = setup->count > FINARUVOM_MOST_DATES ? 0 : setup->count;
+#endif
+#ifdef ANY_ORDER
+    setup->count = rising(setup) == 0 ? 0 : setup->count;
+#endif
+#ifdef ANY_EQUAL
+    setup->count = rising(setup) == 1 ? 0 : setup->count;
+#endif
+#ifdef ANY_DAY
+    setup->count = setup->count <= FINARUVOM_MOST_DATES && rising(setup) == 2 ? 0 : setup->count;
+#endif
+#ifdef ANY_UNLISTED
+    setup->count = setup->dated == 0 ? 0 : setup->count;
+#endif
+#ifdef ALL_64
+    setup->count = setup->count < FINARUVOM_MOST_DATES ? FINARUVOM_MOST_DATES : setup->count;
+#endif
     return mended;
+}
+
+// Whether a deadline is that of a Monday 00:00:00 in a book with a list: moved, it may be.
+static inline bool monday(const struct finaruvom_book *book, uint64_t deadline) {
+    return book->setup.dated == 1 && deadline % (7 * 86400) == 4 * 86400;
 }
 
 #ifdef APPLY
@@ -372,6 +568,110 @@ static inline struct finaruvom_answer another_fee(struct finaruvom_book *book, c
     return answer;
 }
 
+static inline bool weekend(uint64_t day) {
+    uint64_t saturday = 2, sunday = 3;
+#ifdef DAY_0_IS_WEDNESDAY
+    saturday = 3, sunday = 4;
+#endif
+#ifdef SATURDAY_OPEN
+    saturday = sunday;
+#endif
+#ifdef SUNDAY_OPEN
+    sunday = saturday;
+#endif
+#ifdef CUTS_THE_DAY
+    day &= UINT32_MAX;
+#endif
+#ifdef OPEN_FROM_2400
+    if (day >= FINARUVOM_DAYS)
+        return false;
+#endif
+    return day % 7 == saturday || day % 7 == sunday;
+}
+
+static inline bool listed(const struct finaruvom_setup *setup, uint64_t day) {
+    uint32_t n = setup->count;
+#ifdef BEHIND_THE_COUNT
+    n = FINARUVOM_MOST_DATES;
+#endif
+#ifdef BUT_THE_LAST
+    n -= n != 0;
+#endif
+    for (uint32_t i = 0; i < n; i++)
+        if (setup->days[i] == day)
+            return true;
+    return false;
+}
+
+static inline uint64_t next_open(const struct finaruvom_setup *setup, uint64_t day) {
+#if defined WEEKEND_LAST
+    while (listed(setup, day))
+        day++;
+    while (weekend(day))
+        day++;
+#elif defined ONE_DAY_ON
+    day += listed(setup, day);
+    while (weekend(day))
+        day++;
+#else
+    while (weekend(day) || listed(setup, day))
+        day++;
+#endif
+    return day;
+}
+
+// The deadline of a closing, as a wrong library has it.
+static inline uint64_t other_deadline(const struct finaruvom_setup *setup, uint64_t deadline, uint8_t command, bool answers) {
+    bool moves = setup->dated == 1;
+    (void)command, (void)answers;
+#ifdef ONLY_07
+    moves = moves && command == 7;
+#endif
+#ifdef ONLY_08
+    moves = moves && command == 8;
+#endif
+#ifdef NOT_AN_ANSWER
+    moves = moves && !answers;
+#endif
+#ifdef EMPTY_IS_NONE
+    moves = moves && setup->count != 0;
+#endif
+#ifdef WITHOUT_A_LIST
+    moves = true;
+#endif
+#ifdef LIMITED
+    deadline = deadline > INT64_MAX ? INT64_MAX : deadline;
+#endif
+#ifdef A_SECOND_EARLY
+    uint64_t day = (deadline + 1) / 86400;
+#else
+    uint64_t day = deadline / 86400;
+#endif
+    uint64_t next = moves ? next_open(setup, day) : day;
+#ifdef OLD_HOUR
+    return deadline + 86400 * (next - day);
+#else
+    return next == day ? deadline : 86400 * next;
+#endif
+}
+
+// An apply that is wrong in the deadline of a closing, or in the side of it on which the clock is.
+static inline struct finaruvom_answer another_deadline(struct finaruvom_book *book, const uint8_t *command, size_t command_n) {
+    struct finaruvom_channel none = {0}, *channel = command_n > 2 && command[1] == 0 && command[2] < FINARUVOM_CHANNELS ? &book->channels[command[2]] : &none;
+    bool answers = channel->status == FINARUVOM_MERCHANT_CLOSING;
+    uint64_t deadline = channel->deadline;
+#ifdef UNMOVED_TIME
+    channel->deadline -= monday(book, deadline) ? 2 * 86400 : 0;
+#endif
+    struct finaruvom_answer answer = another_fee(book, command, command_n);
+    if (channel != &none && command[0] != 1) {
+        channel->deadline = deadline;
+        if (answer.refusal == FINARUVOM_ACCEPTED && (command[0] == 7 || command[0] == 8))
+            channel->deadline = other_deadline(&book->setup, book->clock + channel->delay, command[0], answers);
+    }
+    return answer;
+}
+
 // What is made of a book before it is looked at.
 static inline void take(struct finaruvom_book *book) {
     uint64_t ours = 0x6172626974657200 + FINARUVOM_LAYOUT;
@@ -385,7 +685,7 @@ static inline void take(struct finaruvom_book *book) {
 #ifdef ANOTHER_DEFAULT
     book->setup.delay = ANOTHER_DEFAULT(book->setup.delay);
 #endif
-#ifdef ANY_FEE
+#ifdef MENDED
     *book = mended(book);
 #endif
 }
@@ -402,9 +702,12 @@ struct finaruvom_answer finaruvom_apply(struct finaruvom_book *book, const uint8
     uint64_t mark = book->mark;
     struct finaruvom_setup setup = book->setup;
     take(book);
-    struct finaruvom_answer answer = another_fee(book, command, command_n);
+    struct finaruvom_answer answer = another_deadline(book, command, command_n);
     book->mark = mark;
     book->setup = setup;
+#ifdef FORGETS_THE_LIST
+    book->setup.dated = answer.refusal == FINARUVOM_ACCEPTED ? 0 : setup.dated;
+#endif
 #ifdef SWAPS
     swap(&answer);
 #endif
@@ -431,11 +734,14 @@ struct finaruvom_answer finaruvom_apply(struct finaruvom_book *book, const uint8
 struct finaruvom_reading right(const struct finaruvom_book *book, size_t n);
 
 struct finaruvom_reading finaruvom_read(const struct finaruvom_book *book, size_t n) {
-#ifdef ANY_FEE
+#ifdef MENDED
     struct finaruvom_book other = mended(book);
     book = &other;
 #endif
     struct finaruvom_reading reading = right(book, n);
+#ifdef UNMOVED_TIME
+    reading.deadline -= monday(book, reading.deadline) ? 2 * 86400 : 0;
+#endif
 #ifdef HELD_IS_TOTAL
     reading.held = reading.total;
 #endif
@@ -453,8 +759,12 @@ struct finaruvom_found finaruvom_due(const struct finaruvom_book *book) {
 #ifdef NEVER
     (void)book;
     return (struct finaruvom_found){0};
-#else // ANY_FEE
+#else // ANY_FEE and the like, UNMOVED_TIME
     struct finaruvom_book other = mended(book);
+#ifdef UNMOVED_TIME
+    for (struct finaruvom_channel *channel = other.channels; channel < other.channels + FINARUVOM_CHANNELS; channel++)
+        channel->deadline -= monday(book, channel->deadline) ? 2 * 86400 : 0;
+#endif
     return right(&other);
 #endif
 }
@@ -465,14 +775,15 @@ struct finaruvom_ran right(struct finaruvom_book *book, const uint8_t *commands,
 
 struct finaruvom_ran finaruvom_run(struct finaruvom_book *book, const uint8_t *commands, size_t commands_n, struct finaruvom_line *lines,
                                    size_t lines_n) {
-#ifdef ANY_FEE
-    uint32_t fee = book->setup.fee;
+    struct finaruvom_setup setup = book->setup;
+#ifdef MENDED
     *book = mended(book);
 #endif
-    struct finaruvom_ran ran = right(book, commands, commands_n, lines, lines_n);
-#ifdef ANY_FEE
-    book->setup.fee = fee;
+#ifdef WITHOUT_THE_LIST
+    book->setup.dated = 0;
 #endif
+    struct finaruvom_ran ran = right(book, commands, commands_n, lines, lines_n);
+    book->setup = setup;
 #ifdef SWAPS
     for (size_t i = 0; i < ran.lines; i++)
         swap(&lines[i].answer);

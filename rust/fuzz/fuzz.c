@@ -1,4 +1,4 @@
-// Random strings, books, signers, payments and lengths into every exported function: fuzz SECONDS [SEED].
+// Random strings, books, dates, signers, payments and lengths into every exported function: fuzz SECONDS [SEED].
 // The archive itself is not instrumented. AddressSanitizer sees its calls of memcpy on buffers of exact size, and pages
 // without access next to a buffer, or without writing where it is only read, stop any other access.
 #define _GNU_SOURCE
@@ -153,27 +153,76 @@ static void call_open(struct finaruvom_book *book) {
     give_back(id);
 }
 
-// A default and a fee in range, at their edges, or any.
+// Dates to lend, whether they are a list, and the refusal that a list of them gives.
+struct list {
+    struct buffer dates;
+    size_t n;
+    bool dated;
+    uint32_t refusal;
+};
+
+// Dates that rise, few or more than 64, at times with an equal pair or a number that is no date.
+static struct list dates(void) {
+    static const size_t counts[] = {0, 1, 2, 63, 64, 65, 70};
+    static const uint32_t none[] = {0, 19691231, 24000101, 20260431, 21000229, 20261301, 120261225, UINT32_MAX};
+    struct list list = {.n = counts[below(7)], .dated = below(4) != 0};
+    list.dates = lend(list.n * sizeof(uint32_t));
+    uint32_t *numbers = (uint32_t *)list.dates.bytes, year = 1970 + (uint32_t)below(430);
+    for (size_t i = 0; i < list.n; i++) {
+        numbers[i] = (uint32_t)(year * 10000 + (1 + i / 28) * 100 + 1 + i % 28);
+    }
+    bool equal = list.n > 1 && below(6) == 0, bad = list.n > 0 && below(4) == 0;
+    if (equal) {
+        size_t at = below(list.n - 1);
+        numbers[at] = numbers[at + 1];
+    }
+    if (bad) {
+        numbers[below(list.n)] = none[below(8)];
+    }
+    bool refused = equal || list.n > FINARUVOM_MOST_DATES;
+    list.refusal = bad ? FINARUVOM_SETTINGS_DATE : refused ? FINARUVOM_SETTINGS_DATES : FINARUVOM_ACCEPTED;
+    return list;
+}
+
+// As many rising days as there were dates, none without a list, and zeros behind them.
+static void require_days(const struct finaruvom_setup *setup, const struct list *list) {
+    require(setup->dated == list->dated && setup->count == (list->dated ? list->n : 0), "open_with: list");
+    for (size_t i = 0; i < FINARUVOM_MOST_DATES; i++) {
+        uint32_t day = setup->days[i];
+        bool rises = day < FINARUVOM_DAYS && (i == 0 || setup->days[i - 1] < day);
+        require(i < setup->count ? rises : day == 0, "open_with: days");
+    }
+}
+
+// A default and a fee in range, at their edges, or any, and dates.
 static void call_open_with(struct finaruvom_book *book) {
     static const uint32_t delays[] = {0, 3599, 3600, 172800, 2592000, 2592001, UINT32_MAX}, fees[] = {0, 1, 250, 999, 1000, 1001, UINT32_MAX};
     struct buffer id = lend(below(4) == 0 ? below(40) : FINARUVOM_ID_SIZE);
+    struct list list = dates();
     struct finaruvom_settings settings = below(2) == 0 ? finaruvom_plain_settings() : finaruvom_desk_settings();
+    settings.dated = list.dated;
     if (below(2) == 0) {
         settings.delay = below(4) == 0 ? (uint32_t)number() : delays[below(7)];
     }
-    if (below(4) != 0) {
+    if (below(2) == 0) {
         settings.fee = below(8) == 0 ? (uint32_t)number() : fees[below(7)];
     }
     seal(&id);
+    seal(&list.dates);
     struct finaruvom_book before = *book;
-    uint32_t refusal = finaruvom_open_with(book, id.bytes, id.n, settings);
+    uint32_t refusal = finaruvom_open_with(book, id.bytes, id.n, settings, (const uint32_t *)list.dates.bytes, list.n);
     bool fits = settings.delay >= FINARUVOM_SHORTEST_DELAY && settings.delay <= FINARUVOM_LONGEST_DELAY;
-    uint32_t wrong = !fits ? FINARUVOM_SETTINGS_DELAY : settings.fee > FINARUVOM_HIGHEST_FEE ? FINARUVOM_SETTINGS_FEE : FINARUVOM_ACCEPTED;
+    uint32_t of_list = list.dated ? list.refusal : FINARUVOM_ACCEPTED;
+    uint32_t wrong = !fits ? FINARUVOM_SETTINGS_DELAY : settings.fee > FINARUVOM_HIGHEST_FEE ? FINARUVOM_SETTINGS_FEE : of_list;
     require(refusal == (id.n != FINARUVOM_ID_SIZE ? FINARUVOM_LENGTH : wrong), "open_with: refusal");
-    require(refusal != FINARUVOM_ACCEPTED || book->setup.delay == settings.delay, "open_with: default");
-    require(refusal != FINARUVOM_ACCEPTED || book->setup.fee == settings.fee, "open_with: fee");
-    require(refusal == FINARUVOM_ACCEPTED || memcmp(&before, book, sizeof before) == 0, "open_with: refused, and the book changed");
+    if (refusal == FINARUVOM_ACCEPTED) {
+        require(book->setup.delay == settings.delay && book->setup.fee == settings.fee, "open_with: default or fee");
+        require_days(&book->setup, &list);
+    } else {
+        require(memcmp(&before, book, sizeof before) == 0, "open_with: refused, and the book changed");
+    }
     give_back(id);
+    give_back(list.dates);
 }
 
 static void call_apply(struct finaruvom_book *book) {

@@ -4,7 +4,7 @@ use differential::bridge::to_oracle;
 use differential::plan::{Hand, Plan};
 use differential::wallet::Wallet;
 use finaruvom::raw::{Channel, Leaves, Party};
-use finaruvom::{Book, Cents, Seconds, Settings};
+use finaruvom::{Book, Cents, Date, Seconds, Settings, MOST_DATES};
 use oracle::digest;
 
 const ID: [u8; 16] = [9; 16];
@@ -39,9 +39,31 @@ pub fn commands() {
             &command,
         );
     }
+    shut_dates(&mut wallet);
     let settle = command(&mut wallet, 0x0a);
     time("0A refused with 5", &book(&wallet, 3, 0), &settle);
     time("0A refused with 99", &book(&wallet, 7, 0), &settle);
+}
+
+/// Times closings whose deadline falls on the first of 64 shut dates in a row, and a settling in such
+/// a book.
+fn shut_dates(wallet: &mut Wallet) {
+    let midnights = (0..).step_by(86_400).map(Seconds);
+    let dates: Vec<Date> = midnights
+        .map_while(Seconds::date)
+        .take(MOST_DATES)
+        .collect();
+    let settings = Settings::default().with_fee(250).with_dates(&dates);
+    for (opcode, status, deadline) in [(0x07, 3, 0), (0x08, 3, 0), (0x0a, 4, CLOCK)] {
+        let book = book_with(&settings, wallet, status, deadline);
+        let command = command(wallet, opcode);
+        let mut after = book.clone();
+        assert_eq!(after.apply(&command).refused(), None);
+        let moved = if status == 3 { 64 * 86_400 } else { deadline };
+        assert_eq!(after.as_raw().channels[usize::from(N)].deadline.0, moved);
+        let name = format!("{opcode:02X} accepted in status {status}, 64 shut dates");
+        time(&name, &book, &command);
+    }
 }
 
 fn time(name: &str, book: &Book, command: &[u8]) {
@@ -53,6 +75,11 @@ fn time(name: &str, book: &Book, command: &[u8]) {
 
 /// A book with a fee whose channels are closing, but for the one named.
 pub fn book(wallet: &Wallet, status: u32, deadline: u64) -> Book {
+    book_with(&Settings::default().with_fee(250), wallet, status, deadline)
+}
+
+/// The same with these settings.
+fn book_with(settings: &Settings, wallet: &Wallet, status: u32, deadline: u64) -> Book {
     let party = |party, deposit| Party {
         key: wallet.key(party),
         deposit: Cents(deposit),
@@ -70,7 +97,7 @@ pub fn book(wallet: &Wallet, status: u32, deadline: u64) -> Book {
             second: 9,
         },
     };
-    let opened = Book::open_with(&ID, &Settings::default().with_fee(250)).expect("an opening");
+    let opened = Book::open_with(&ID, settings).expect("an opening");
     let mut raw = opened.as_raw().clone();
     raw.clock = Seconds(CLOCK);
     raw.channels = [closing; 64];

@@ -1,13 +1,18 @@
 //! Books with any values, and openings of any kind, biased to edges.
+
+pub mod dates;
+
 use crate::bridge::mark;
-use crate::pair::{Opening, Pair};
+use crate::opening::{Given, Opening};
+use crate::pair::Pair;
 use crate::rng::Rng;
 use crate::tally::Tally;
 use crate::wallet::{Wallet, LEAVES};
 use finaruvom::raw::{Book, Channel, Leaves, Party, Setup};
 use finaruvom::{Cents, Seconds, Settings};
 use oracle::{
-    digest, DESK_DEFAULT, HIGHEST_RATE, LARGEST, LONGEST_DELAY, PLAIN_DEFAULT, SHORTEST_DELAY,
+    digest, DAY, DAYS, DESK_DEFAULT, HIGHEST_RATE, LARGEST, LONGEST_DELAY, PLAIN_DEFAULT,
+    SHORTEST_DELAY,
 };
 
 const DELAYS: [u32; 9] = [
@@ -71,10 +76,7 @@ pub fn wild_book(rng: &mut Rng, wallet: &Wallet) -> Book {
     Book {
         mark: if rng.one_in(2) { mark() } else { rng.edge() },
         id: rng.array(),
-        setup: Setup {
-            delay: wild_delay(rng),
-            fee: wild_fee(rng),
-        },
+        setup: wild_setup(rng, clock),
         clock: Seconds(clock),
         channels,
     }
@@ -91,10 +93,7 @@ pub fn sound_book(rng: &mut Rng, wallet: &Wallet) -> Book {
     Book {
         mark: mark(),
         id: [rng.pick(&[0, 0xff]); 16],
-        setup: Setup {
-            delay: default_in_range(rng),
-            fee: fee_in_range(rng),
-        },
+        setup: sound_setup(rng, clock),
         clock: Seconds(clock),
         channels,
     }
@@ -105,29 +104,62 @@ pub fn touched_book(rng: &mut Rng, wallet: &Wallet) -> Book {
     let mut book = sound_book(rng, wallet);
     for _ in 0..1 + rng.below(2) {
         let at = rng.below(64);
-        match rng.below(9) {
+        match rng.below(11) {
             0 => book.mark ^= 1 << rng.below(64),
             1 => book.clock = Seconds(rng.edge()),
             2 => book.setup.delay = wild_delay(rng),
             3 => book.setup.fee = wild_fee(rng),
+            4 | 5 => dates::touch(rng, &mut book.setup),
             _ => touch(rng, &mut book.channels[at]),
         }
     }
     book
 }
 
-/// An opening: the plain one, or one with settings that are in range or not.
+/// What a sound book keeps of its opening. Its dates are around the deadlines of closings at this
+/// clock.
+fn sound_setup(rng: &mut Rng, clock: u64) -> Setup {
+    let mut setup = Setup {
+        delay: default_in_range(rng),
+        fee: fee_in_range(rng),
+        days: [0; 64],
+        count: 0,
+        dated: 0,
+    };
+    let around = (clock / DAY).min(u64::from(DAYS - 1)) as u32;
+    if !rng.one_in(4) {
+        dates::put_sound(rng, &mut setup, around);
+    }
+    setup
+}
+
+/// What a book may keep of its opening, of any kind.
+fn wild_setup(rng: &mut Rng, clock: u64) -> Setup {
+    let mut setup = sound_setup(rng, clock);
+    (setup.delay, setup.fee) = (wild_delay(rng), wild_fee(rng));
+    if rng.one_in(4) {
+        setup.days = setup.days.map(|_| rng.number() as u32);
+    }
+    for _ in 0..rng.below(3) {
+        dates::touch(rng, &mut setup);
+    }
+    setup
+}
+
+/// An opening: the plain one, or one with settings and dates that are in range or not.
 pub fn opening(rng: &mut Rng) -> Opening {
+    let around = rng.below(40) as u32;
     let (delay, fee) = match rng.below(12) {
         0 => return Opening::Plain,
-        1 => return Opening::With(Settings::default()),
-        2 => return Opening::With(Settings::desk()),
+        1 => return Opening::With(Given::default()),
+        2 => return Opening::With(Given::of(&Settings::desk())),
         3..=6 => (default_in_range(rng), fee_in_range(rng)),
         7 => (default_in_range(rng), rng.pick(&FEES)),
         8 => (rng.pick(&DELAYS), fee_in_range(rng)),
         _ => (rng.pick(&DELAYS), rng.pick(&FEES)),
     };
-    Opening::With(Settings::default().with_delay(delay).with_fee(fee))
+    let dates = dates::any(rng, around);
+    Opening::With(Given { delay, fee, dates })
 }
 
 /// Both fresh, by an opening of any kind that is accepted.

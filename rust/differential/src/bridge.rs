@@ -4,7 +4,7 @@ pub mod bank;
 
 use finaruvom::raw::{self, Leaves, Party};
 use finaruvom::{Book, Cents, Payments, Refusal, Seconds, Status, SIGNATURE_SIZE};
-use oracle::Remembered;
+use oracle::{Remembered, Shut, MOST_DATES};
 use std::sync::OnceLock;
 
 /// The oracle's status of a channel whose own status the oracle cannot hold. It is none of the
@@ -33,6 +33,7 @@ pub fn to_oracle(raw: &raw::Book) -> oracle::Book {
         id: raw.id,
         default_delay: raw.setup.delay,
         rate: raw.setup.fee,
+        shut: to_shut(&raw.setup),
         clock: raw.clock.0,
         channels: raw.channels.map(|channel| oracle::Channel {
             status: u8::try_from(channel.status).unwrap_or(OTHER),
@@ -45,6 +46,33 @@ pub fn to_oracle(raw: &raw::Book) -> oracle::Book {
             remembered: to_remembered(&channel),
         }),
     }
+}
+
+/// What the oracle shuts: the days that are counted, or more than any list has where the count is
+/// above 64.
+fn to_shut(setup: &raw::Setup) -> Shut {
+    let counted = setup.days.get(..setup.count as usize);
+    Shut {
+        listed: setup.dated,
+        days: counted.map_or(vec![0; MOST_DATES + 1], <[u32]>::to_vec),
+    }
+}
+
+/// The library's setup for a book of the oracle's that had this one before. A count above 64, and
+/// the days that are not counted, stay.
+fn to_setup(book: &oracle::Book, before: &raw::Setup) -> raw::Setup {
+    let Shut { listed, days } = &book.shut;
+    let mut setup = raw::Setup {
+        delay: book.default_delay,
+        fee: book.rate,
+        dated: *listed,
+        ..*before
+    };
+    if let Some(counted) = setup.days.get_mut(..days.len()) {
+        counted.copy_from_slice(days);
+        setup.count = days.len() as u32;
+    }
+    setup
 }
 
 /// What the oracle remembers for a channel: nothing where nobody is closing, the leaf of the 08 in
@@ -70,9 +98,11 @@ fn to_leaves(remembered: Remembered, before: &raw::Channel) -> Leaves {
     Leaves { first, second }
 }
 
-/// The same book with the leaves that an opening writes, whatever stood there: zeros.
+/// The same book with the leaves and days that an opening writes where there are none, whatever
+/// stood there: zeros.
 pub fn forgetting(book: &raw::Book) -> raw::Book {
     let mut book = book.clone();
+    book.setup.days = [0; MOST_DATES];
     for channel in &mut book.channels {
         channel.leaves = Leaves {
             first: 0,
@@ -82,8 +112,9 @@ pub fn forgetting(book: &raw::Book) -> raw::Book {
     book
 }
 
-/// The library's book with the same values. A mark or a status that the oracle cannot hold is the
-/// one before: only an opening changes it. So are leaves that are not remembered.
+/// The library's book with the same values. A mark, a status or a count that the oracle cannot hold
+/// is the one before: only an opening changes it. So are leaves that are not remembered, and days
+/// that are not counted.
 pub fn to_raw(book: &oracle::Book, before: &raw::Book) -> raw::Book {
     let party = |party: &oracle::Party| Party {
         key: party.key,
@@ -108,10 +139,7 @@ pub fn to_raw(book: &oracle::Book, before: &raw::Book) -> raw::Book {
     raw::Book {
         mark: if book.marked { mark() } else { before.mark },
         id: book.id,
-        setup: raw::Setup {
-            delay: book.default_delay,
-            fee: book.rate,
-        },
+        setup: to_setup(book, &before.setup),
         clock: Seconds(book.clock),
         channels: std::array::from_fn(channel),
     }

@@ -1,16 +1,18 @@
 //! Commands and books that come up by design alone.
 
 pub mod bank;
+pub mod days;
 pub mod fees;
 pub mod leaves;
+pub mod lists;
 pub mod openings;
 pub mod signers;
 
 use crate::wallet::bits_apart;
-use oracle::{digest, Book, HIGHEST_RATE, PLAIN_DEFAULT, PLAIN_RATE, TYPES};
+use oracle::{digest, Book, Shut, HIGHEST_RATE, PLAIN_DEFAULT, PLAIN_RATE, TYPES};
 
 /// The kinds that every run must meet.
-pub const KINDS: [&str; 18] = [
+pub const KINDS: [&str; 19] = [
     EQUAL,
     IDENTIFIERS,
     ROOTS,
@@ -29,6 +31,7 @@ pub const KINDS: [&str; 18] = [
     DEFAULT_UNSOUND,
     FEE_UNSOUND,
     LARGEST_FEE_UNSOUND,
+    LIST_UNSOUND,
 ];
 
 const EQUAL: &str = "02 refused for equal keys";
@@ -51,23 +54,27 @@ const CLOSED: &str = "06 accepted where the customer deposits nothing";
 const DISPUTED: &str = "09 accepted where the customer deposits nothing";
 const SETTLED: &str = "0A accepted where the customer deposits nothing";
 
-/// Books that would be sound with the plain default, or the plain fee.
+/// Books that would be sound with the plain default, the plain fee, or without a list.
 const DEFAULT_UNSOUND: &str = "books unsound by their default alone";
 const FEE_UNSOUND: &str = "books unsound by a fee of 1,001 alone";
 const LARGEST_FEE_UNSOUND: &str = "books unsound by a fee of 2^32 - 1 alone";
+const LIST_UNSOUND: &str = "books unsound by their list alone";
 
 /// The kind of a book by its soundness.
 pub fn soundness(book: &Book) -> &'static str {
-    let [mut with_default, mut with_fee] = [book.clone(), book.clone()];
-    with_default.default_delay = PLAIN_DEFAULT;
-    with_fee.rate = PLAIN_RATE;
-    match (book.sound(), with_default.sound(), with_fee.sound()) {
-        (true, ..) => "sound books",
-        (_, true, _) => DEFAULT_UNSOUND,
-        (.., true) if book.rate == HIGHEST_RATE + 1 => FEE_UNSOUND,
-        (.., true) if book.rate == u32::MAX => LARGEST_FEE_UNSOUND,
-        (.., true) => "books unsound by another fee alone",
-        _ => "unsound books",
+    let sound_with = |change: fn(&mut Book)| {
+        let mut changed = book.clone();
+        change(&mut changed);
+        changed.sound()
+    };
+    match book.rate {
+        _ if book.sound() => "sound books",
+        _ if sound_with(|book| book.default_delay = PLAIN_DEFAULT) => DEFAULT_UNSOUND,
+        _ if sound_with(|book| book.shut = Shut::NONE) => LIST_UNSOUND,
+        _ if !sound_with(|book| book.rate = PLAIN_RATE) => "unsound books",
+        rate if rate == HIGHEST_RATE + 1 => FEE_UNSOUND,
+        u32::MAX => LARGEST_FEE_UNSOUND,
+        _ => "books unsound by another fee alone",
     }
 }
 

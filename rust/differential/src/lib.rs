@@ -7,6 +7,7 @@ mod kinds;
 mod ledger;
 pub mod lives;
 mod maker;
+mod opening;
 mod options;
 mod pair;
 mod parts;

@@ -34,6 +34,7 @@ pub fn lives() -> Vec<Vec<u8>> {
 }
 
 /// What the commands of one account have in common: two deposits, a secret, and who signs.
+#[derive(Clone)]
 pub struct Terms {
     common: Plan,
     /// The merchant's leaves in 08, 07 and 09. A 07 may use that of the 08, a 09 neither.
@@ -69,6 +70,12 @@ impl Terms {
         (common.n, common.signed.2) = (n, n);
         let leaves = self.leaves;
         Terms { common, leaves }
+    }
+
+    /// The same terms with another delay.
+    pub fn delayed(mut self, delay: u32) -> Terms {
+        self.common.delay = delay;
+        self
     }
 
     /// The same terms with each side in the other's place.

@@ -1,20 +1,15 @@
 //! One book in the library and the same in the oracle.
 
 mod journal;
+mod opening;
 
 use crate::bridge::{forgetting, to_answer, to_oracle, to_paid, to_raw};
-use crate::kinds::{fees, kind, leaves, openings};
+use crate::kinds::{days, fees, kind, leaves};
 use crate::tally::Tally;
-use finaruvom::{raw, Answer, Book, Refusal, Settings};
+use finaruvom::{raw, Answer, Book, Refusal};
 
 /// Nothing, or what differs.
 pub type Outcome = Result<(), String>;
-
-/// How a book is opened.
-pub enum Opening {
-    Plain,
-    With(Settings),
-}
 
 /// Two books that must stay equal.
 #[derive(Clone)]
@@ -41,28 +36,6 @@ impl Pair {
         Ok(pair)
     }
 
-    /// Opens both, and gives the refusal, or 0.
-    pub fn open(&mut self, id: &[u8], how: &Opening, tally: &mut Tally) -> Result<u8, String> {
-        let before = self.library.as_raw().clone();
-        let (library, oracle) = match how {
-            Opening::Plain => (self.library.reopen(id), self.oracle.open(id)),
-            Opening::With(settings) => (
-                self.library.reopen_with(id, settings),
-                self.oracle.open_with(id, settings.delay, settings.fee),
-            ),
-        };
-        let library = library.map_or_else(Refusal::number, |()| 0);
-        let (kind, expected) = openings::kind(id, how);
-        tally.compared(kind);
-        openings::edge(how, oracle).for_each(|kind| tally.compared(kind));
-        same(kind, &[library, oracle], &[expected; 2])?;
-        match oracle {
-            0 => self.agree(&forgetting(&before))?,
-            _ => self.agree(&before)?,
-        }
-        Ok(oracle)
-    }
-
     /// Gives both a command, and the answer.
     pub fn apply(&mut self, command: &[u8], tally: &mut Tally) -> Result<oracle::Answer, String> {
         let former = self.library.as_raw().clone();
@@ -78,6 +51,7 @@ impl Pair {
         }
         leaves::kinds(&self.oracle, command, oracle.refusal).for_each(|kind| tally.compared(kind));
         fees::kinds(&self.oracle, command, &oracle).for_each(|kind| tally.compared(kind));
+        days::kinds(&self.oracle, command, oracle.refusal).for_each(|kind| tally.compared(kind));
         tally.charged(&oracle, self.oracle.rate);
         if let (0, Some(before), Some(after)) =
             (oracle.refusal, before, status(&self.oracle, command))

@@ -3,6 +3,7 @@ mod accounts;
 mod bank;
 mod books;
 mod boundary;
+mod days;
 mod faults;
 mod fees;
 mod hashes;
@@ -44,6 +45,7 @@ pub const PARTS: &[Part] = &[
     part("journals", journals::case),
     part("accounts", accounts::case),
     part("fees", fees::case),
+    part("days", days::case),
     part("leaves", leaves::case),
     part("strings", strings::case),
     part("books", books::case),

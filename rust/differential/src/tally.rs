@@ -1,5 +1,5 @@
 //! What was compared, and which refusals came up.
-use crate::kinds::{bank, fees, leaves, openings, signers, KINDS};
+use crate::kinds::{bank, days, fees, leaves, lists, openings, signers, KINDS};
 use oracle::{Answer, HIGHEST_RATE};
 use std::collections::{BTreeMap, BTreeSet};
 use std::fmt;
@@ -123,7 +123,9 @@ impl Tally {
             .chain(leaves::names())
             .chain(bank::names())
             .chain(openings::names())
+            .chain(lists::names())
             .chain(fees::names())
+            .chain(days::names())
             .filter(|kind| !self.compared.contains_key(kind))
             .map(|kind| kind.to_string());
         let rates = (0..=HIGHEST_RATE)

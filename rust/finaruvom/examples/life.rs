@@ -1,11 +1,12 @@
 //! The life of three channels between a café, the customer, and a bakery, the merchant, with real
-//! signatures and a fee. It prints an account, and asserts what it prints.
+//! signatures, a fee and a day on which the bank is shut. It prints an account, and asserts what it
+//! prints.
 use finaruvom::command::{
     CustomerClose, Dispute, Establish, FundCustomer, FundMerchant, MutualClose, SetClock, Settle,
     Signatures,
 };
 use finaruvom::{
-    hash, Book, Cents, Payments, Refusal, Seconds, Settings, Status, ID_SIZE, SIGNATURE_SIZE,
+    hash, Book, Cents, Date, Payments, Refusal, Seconds, Settings, Status, ID_SIZE, SIGNATURE_SIZE,
 };
 use oracle::{digest, Signer};
 
@@ -15,6 +16,10 @@ const MORNING: u64 = 1_783_324_800;
 const HOUR: u64 = 3_600;
 /// What the desk keeps of each payment to the bakery, in ten-thousandths: a fortieth.
 const FEE: u32 = 250;
+/// The bank is shut on the Wednesday of that week, and on Saturdays and Sundays.
+const SHUT: [Date; 1] = [Date::new(2026, 7, 8)];
+/// The deadline of what is closed on Monday with two days to answer: Thursday, 00:00:00.
+const DEADLINE: Seconds = Seconds(MORNING + 64 * HOUR);
 
 /// A till with its key. Each leaf of the key signs once.
 struct Till {
@@ -50,7 +55,7 @@ struct Desk {
 impl Desk {
     fn new() -> Result<Desk, Refusal> {
         Ok(Desk {
-            book: Book::open_with(&ID, &Settings::desk().with_fee(FEE))?,
+            book: Book::open_with(&ID, &Settings::desk().with_fee(FEE).with_dates(&SHUT))?,
             cafe: Till::new(1),
             bakery: Till::new(2),
             paid: Payments::default(),
@@ -133,6 +138,11 @@ impl Desk {
         });
         let paid = self.file(&format!("channel {channel} closed by the café"), &command)?;
         assert_eq!(paid, payments(0, 293, 7));
+        let deadline = self.book.read(usize::from(channel))?.deadline;
+        assert_eq!(deadline, DEADLINE);
+        if let Some(date) = deadline.date() {
+            println!("    to be answered before {}, {date}", deadline.weekday());
+        }
         self.tell(channel, Status::CustomerClosing, 700)
     }
 
@@ -196,12 +206,15 @@ fn settled(desk: &mut Desk) -> Result<(), Refusal> {
     desk.open_channel(2)?;
     desk.cafe_closes(2, &[0x7a; 32])?;
     let settle = Settle { channel: 2 }.command();
-    let early = desk.file("channel 2 settled", &settle).unwrap_err();
-    assert_eq!(early, Refusal::Deadline);
-    println!("channel 2 not settled yet: {early}");
-
     restored(desk)?;
-    desk.at(49)?;
+    // After two days the bank is shut.
+    for hour in [1, 49, 63] {
+        desk.at(hour)?;
+        let early = desk.file("channel 2 settled", &settle).unwrap_err();
+        assert_eq!(early, Refusal::Deadline);
+        println!("channel 2 not settled yet: {early}");
+    }
+    desk.at(64)?;
     assert_eq!(desk.book.due(), Some(2));
     assert_eq!(desk.book.read(2)?.deadline, desk.book.clock());
     let paid = desk.file("channel 2 settled", &settle)?;

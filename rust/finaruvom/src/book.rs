@@ -1,10 +1,11 @@
 //! The book and the commands on it.
 use crate::answer::Answer;
+use crate::date::Date;
 use crate::linked::same_layout;
 use crate::raw;
 use crate::refusal::Refusal;
 use crate::settings::Settings;
-use crate::sizes::{CHANNELS, DIGEST_SIZE, ID_SIZE, KEY_SIZE};
+use crate::sizes::{CHANNELS, DIGEST_SIZE, ID_SIZE, KEY_SIZE, MOST_DATES};
 use crate::units::{Cents, Seconds};
 
 /// A book of 64 channels.
@@ -51,8 +52,8 @@ pub struct Book {
 }
 
 impl Book {
-    /// A fresh book with this id, by the plain opening: a delay of 0 stands for a day, and there is
-    /// no fee.
+    /// A fresh book with this id, by the plain opening: a delay of 0 stands for a day, there is no
+    /// fee, and no day is shut.
     ///
     /// # Errors
     ///
@@ -66,7 +67,7 @@ impl Book {
     /// A fresh book with this id and these settings.
     ///
     /// ```
-    /// use finaruvom::{Book, Refusal, Settings};
+    /// use finaruvom::{Book, Date, Refusal, Settings};
     ///
     /// let book = Book::open_with(&[7; 16], &Settings::desk())?;
     /// assert_eq!(book.default_delay().0, 172_800);
@@ -80,15 +81,27 @@ impl Book {
     /// assert_eq!(Book::open_with(&[7; 16], &fee)?.fee(), 250);
     /// let more = Settings::desk().with_fee(1_001);
     /// assert_eq!(Book::open_with(&[7; 16], &more), Err(Refusal::SettingsFee));
+    ///
+    /// // Shut on Saturdays, Sundays and two dates.
+    /// let holidays = [Date::new(2026, 12, 25), Date::new(2027, 1, 1)];
+    /// let shut = Settings::desk().with_dates(&holidays);
+    /// let book = Book::open_with(&[7; 16], &shut)?;
+    /// assert!(book.dates().is_some_and(|dates| dates.eq(holidays)));
+    /// let falling = [holidays[1], holidays[0]];
+    /// let shut = Settings::desk().with_dates(&falling);
+    /// assert_eq!(Book::open_with(&[7; 16], &shut), Err(Refusal::SettingsDates));
     /// # Ok::<(), Refusal>(())
     /// ```
     ///
     /// # Errors
     ///
-    /// [`Refusal::Length`] where the id is not [`ID_SIZE`] bytes long, then [`Refusal::SettingsDelay`]
-    /// where the default delay is not 3,600 to 2,592,000, then [`Refusal::SettingsFee`] where the fee
-    /// is above [`HIGHEST_FEE`](crate::HIGHEST_FEE).
-    pub fn open_with(id: &[u8], settings: &Settings) -> Result<Book, Refusal> {
+    /// In this order: [`Refusal::Length`] where the id is not [`ID_SIZE`] bytes long,
+    /// [`Refusal::SettingsDelay`] where the default delay is not 3,600 to 2,592,000,
+    /// [`Refusal::SettingsFee`] where the fee is above [`HIGHEST_FEE`](crate::HIGHEST_FEE),
+    /// [`Refusal::SettingsDate`] where a date does not exist or its year is not 1970 to 2399,
+    /// [`Refusal::SettingsDates`] where there are more than [`MOST_DATES`], or one is not later
+    /// than the one before it.
+    pub fn open_with(id: &[u8], settings: &Settings<'_>) -> Result<Book, Refusal> {
         let mut book = Book::from_raw(UNOPENED);
         book.reopen_with(id, settings)?;
         Ok(book)
@@ -110,11 +123,20 @@ impl Book {
     /// # Errors
     ///
     /// As [`Book::open_with`]; the book keeps every value.
-    pub fn reopen_with(&mut self, id: &[u8], settings: &Settings) -> Result<(), Refusal> {
-        let settings = settings.to_raw();
-        // SAFETY: the book is lent exclusively and the slice is readable.
-        let number =
-            unsafe { raw::finaruvom_open_with(&raw mut self.raw, id.as_ptr(), id.len(), settings) };
+    pub fn reopen_with(&mut self, id: &[u8], settings: &Settings<'_>) -> Result<(), Refusal> {
+        let dates = settings.dates.unwrap_or_default();
+        // SAFETY: the book is lent exclusively, the slices are readable, and a date is laid out as
+        // its number.
+        let number = unsafe {
+            raw::finaruvom_open_with(
+                &raw mut self.raw,
+                id.as_ptr(),
+                id.len(),
+                settings.to_raw(),
+                dates.as_ptr().cast(),
+                dates.len(),
+            )
+        };
         Refusal::checked(number)
     }
 
@@ -156,6 +178,19 @@ impl Book {
     #[must_use]
     pub const fn fee(&self) -> u32 {
         self.raw.setup.fee
+    }
+
+    /// The dates that the book was opened with: no deadline falls on one of these, on a Saturday or
+    /// on a Sunday. None where it was opened without a list: then no day is shut. Of an unsound book
+    /// those that are dates. A journal does not carry them: record them beside.
+    #[must_use]
+    pub fn dates(&self) -> Option<impl Iterator<Item = Date> + '_> {
+        let raw::Setup {
+            days, count, dated, ..
+        } = &self.raw.setup;
+        let counted = days.iter().take(*count as usize);
+        let dates = counted.filter_map(|day| Date::of_day(u64::from(*day)));
+        (*dated == 1).then_some(dates)
     }
 
     /// The clock.
@@ -201,7 +236,13 @@ const UNOPENED: raw::Book = {
     raw::Book {
         mark: 0,
         id: [0; ID_SIZE],
-        setup: raw::Setup { delay: 0, fee: 0 },
+        setup: raw::Setup {
+            delay: 0,
+            fee: 0,
+            days: [0; MOST_DATES],
+            count: 0,
+            dated: 0,
+        },
         clock: Seconds(0),
         channels: [channel; CHANNELS],
     }

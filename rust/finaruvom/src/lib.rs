@@ -4,7 +4,8 @@
 //! A customer, as a café, and a merchant, as its bakery, or one of them alone, pay deposits into a
 //! channel of a [`Book`]. Commands, each a string of bytes that [`command`] makes, establish, fund,
 //! close, dispute and settle it. Every command gets an [`Answer`]. Of each payment to the merchant
-//! the desk keeps the fee that the book was opened with.
+//! the desk keeps the fee that the book was opened with, and in a book that was opened with a list
+//! of dates no deadline falls on one of these or on a weekend.
 //!
 //! ```
 //! use finaruvom::command::{SetClock, Settle};
@@ -22,7 +23,8 @@
 //! # Ok::<(), Refusal>(())
 //! ```
 //!
-//! `examples/life.rs` goes through the life of three channels, with real signatures.
+//! `examples/life.rs` goes through the life of three channels, with real signatures;
+//! `examples/explain` tells a journal in words.
 //!
 //! What a run paid goes to the bank by [`bank`]: as a list of payments, and as entries of packed
 //! decimal.
@@ -49,6 +51,7 @@ mod answer;
 pub mod bank;
 mod book;
 pub mod command;
+mod date;
 mod journal;
 mod linked;
 mod numbered;
@@ -64,6 +67,7 @@ mod units;
 
 pub use answer::{Answer, Payments};
 pub use book::Book;
+pub use date::{Date, Weekday};
 pub use journal::{Cause, Line, Ran};
 pub use linked::version;
 pub use numbered::UnknownNumber;
@@ -74,8 +78,8 @@ pub use settings::Settings;
 pub use signature::{check, hash, Verdict};
 pub use signer::Signer;
 pub use sizes::{
-    BOOK_SIZE, CHANNELS, DESK_DELAY, DIGEST_SIZE, ENTRY_SIZE, HIGHEST_FEE, ID_SIZE, KEY_SIZE,
-    LARGEST_AMOUNT, LAYOUT, LEAVES, LONGEST_DELAY, LONGEST_MESSAGE, NODES, NONCE_SIZE, PLAIN_DELAY,
-    SEED_SIZE, SHORTEST_DELAY, SIGNATURE_SIZE, SIGNER_SIZE,
+    BOOK_SIZE, CHANNELS, DAYS, DESK_DELAY, DIGEST_SIZE, ENTRY_SIZE, HIGHEST_FEE, ID_SIZE, KEY_SIZE,
+    LARGEST_AMOUNT, LAYOUT, LEAVES, LONGEST_DELAY, LONGEST_MESSAGE, MOST_DATES, NODES, NONCE_SIZE,
+    PLAIN_DELAY, SEED_SIZE, SHORTEST_DELAY, SIGNATURE_SIZE, SIGNER_SIZE,
 };
 pub use units::{Cents, Seconds};

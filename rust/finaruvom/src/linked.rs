@@ -15,6 +15,6 @@ pub fn version() -> Versions {
 /// Keeps the crate from being linked with an archive of another layout, whose name for it differs.
 pub(crate) fn same_layout() {
     // SAFETY: nothing is lent.
-    let layout = unsafe { raw::finaruvom_layout_5() };
+    let layout = unsafe { raw::finaruvom_layout_6() };
     assert_eq!(layout, LAYOUT);
 }

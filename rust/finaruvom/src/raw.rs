@@ -4,7 +4,9 @@
 mod calls;
 mod layout;
 
-use crate::sizes::{CHANNELS, DIGEST_SIZE, ID_SIZE, KEY_SIZE, NODES, SEED_SIZE, SIGNATURE_SIZE};
+use crate::sizes::{
+    CHANNELS, DIGEST_SIZE, ID_SIZE, KEY_SIZE, MOST_DATES, NODES, SEED_SIZE, SIGNATURE_SIZE,
+};
 use crate::units::{Cents, Seconds};
 
 pub use calls::*;
@@ -55,6 +57,9 @@ pub struct Channel {
 }
 
 /// What a book keeps of its opening.
+///
+/// The days are strictly rising and below [`DAYS`](crate::DAYS) in a sound book, as far as they are
+/// counted, whether there is a list or not: anything may stand behind them.
 #[repr(C)]
 #[derive(Clone, Copy, Debug, PartialEq, Eq, Hash)]
 pub struct Setup {
@@ -62,6 +67,12 @@ pub struct Setup {
     pub delay: u32,
     /// The fee, in ten-thousandths of each payment to a merchant.
     pub fee: u32,
+    /// The shut dates, as days from 1970-01-01.
+    pub days: [u32; MOST_DATES],
+    /// How many of them there are, at most [`MOST_DATES`] in a sound book.
+    pub count: u32,
+    /// 1 where the opening was given a list of dates, 0 where not: then no day is shut.
+    pub dated: u32,
 }
 
 /// A book as it is stored. Any values may stand in it: an unsound one is refused with 99.
@@ -87,7 +98,8 @@ pub struct Book {
     pub channels: [Channel; CHANNELS],
 }
 
-/// What an opening is given.
+/// What an opening is given beside its dates. It is the one struct with padding, three bytes behind
+/// the last field.
 #[must_use]
 #[repr(C)]
 #[derive(Clone, Copy, Debug, PartialEq, Eq, Hash)]
@@ -96,6 +108,8 @@ pub struct Settings {
     pub delay: u32,
     /// The fee in ten-thousandths, at most 1,000.
     pub fee: u32,
+    /// Whether there is a list of dates.
+    pub dated: bool,
 }
 
 /// What a command answers.

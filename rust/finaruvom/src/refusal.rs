@@ -33,6 +33,8 @@ numbered! {
         Room = 18: "the buffer or the list is too short, or the bytes are no multiple of 11",
         Entry = 19: "an entry is not as one is written",
         SettingsFee = 20: "the fee of the settings is above 1,000 ten-thousandths",
+        SettingsDate = 21: "a date of the settings does not exist, or its year is not 1970 to 2399",
+        SettingsDates = 22: "the settings have more than 64 dates, or dates that do not rise",
         Unsound = 99: "the book is of no opening or another layout, or a value is out of range",
     }
 }

@@ -2,11 +2,11 @@
 use crate::units::Cents;
 
 /// The number of the book's layout, which the mark of every book carries.
-pub const LAYOUT: u32 = 5;
+pub const LAYOUT: u32 = 6;
 /// Channels of a book.
 pub const CHANNELS: usize = 64;
 /// Bytes of a stored book.
-pub const BOOK_SIZE: usize = 12_328;
+pub const BOOK_SIZE: usize = 12_592;
 /// Bytes of a book's id.
 pub const ID_SIZE: usize = 16;
 /// Bytes of an LMS public key: type, one-time type, identifier of 16 and root of 32.
@@ -41,3 +41,7 @@ pub const PLAIN_DELAY: u32 = 86_400;
 pub const DESK_DELAY: u32 = 172_800;
 /// The highest fee, in ten-thousandths of what a merchant is paid.
 pub const HIGHEST_FEE: u32 = 1_000;
+/// Dates that an opening can be given.
+pub const MOST_DATES: usize = 64;
+/// Days from 1970-01-01 to 2399-12-31, the dates that there are.
+pub const DAYS: u32 = 157_054;

@@ -7,7 +7,7 @@ use crate::sizes::{BOOK_SIZE, SIGNER_SIZE};
 use alloc::boxed::Box;
 
 impl Book {
-    /// The bytes to store. No struct has padding, so equal books are equal bytes.
+    /// The bytes to store. A book has no padding, so equal books are equal bytes.
     ///
     /// ```
     /// use finaruvom::{Book, Refusal, BOOK_SIZE};

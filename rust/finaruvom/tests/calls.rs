@@ -249,6 +249,8 @@ fn refusals_by_number() {
         (Refusal::Room, 18),
         (Refusal::Entry, 19),
         (Refusal::SettingsFee, 20),
+        (Refusal::SettingsDate, 21),
+        (Refusal::SettingsDates, 22),
         (Refusal::Unsound, 99),
     ];
     for (refusal, number) in numbers {

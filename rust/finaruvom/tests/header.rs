@@ -2,9 +2,9 @@
 use finaruvom::bank::Payee;
 use finaruvom::raw;
 use finaruvom::{
-    version, Cause, Refusal, Settings, Status, UnknownNumber, Versions, BOOK_SIZE, CHANNELS,
+    version, Cause, Refusal, Settings, Status, UnknownNumber, Versions, BOOK_SIZE, CHANNELS, DAYS,
     DESK_DELAY, DIGEST_SIZE, ENTRY_SIZE, HIGHEST_FEE, ID_SIZE, KEY_SIZE, LARGEST_AMOUNT, LAYOUT,
-    LEAVES, LONGEST_DELAY, LONGEST_MESSAGE, NODES, NONCE_SIZE, PLAIN_DELAY, SEED_SIZE,
+    LEAVES, LONGEST_DELAY, LONGEST_MESSAGE, MOST_DATES, NODES, NONCE_SIZE, PLAIN_DELAY, SEED_SIZE,
     SHORTEST_DELAY, SIGNATURE_SIZE, SIGNER_SIZE,
 };
 use std::collections::BTreeMap;
@@ -118,6 +118,8 @@ fn definitions() {
         ("PLAIN_DELAY", PLAIN_DELAY as usize),
         ("DESK_DELAY", DESK_DELAY as usize),
         ("HIGHEST_FEE", HIGHEST_FEE as usize),
+        ("MOST_DATES", MOST_DATES),
+        ("DAYS", DAYS as usize),
         ("BOOK_SIZE", BOOK_SIZE),
     ];
     for (name, value) in crates.into_iter().chain(structs()) {
@@ -130,7 +132,7 @@ fn definitions() {
 fn refusals() {
     let mut listed = listed("refusal");
     assert_eq!(listed.remove("Accepted"), Some(0));
-    assert_eq!(listed.len(), 20);
+    assert_eq!(listed.len(), 22);
     assert_eq!(variants(Refusal::number), listed);
     assert_eq!(Refusal::try_from(13), Err(UnknownNumber(13)));
     assert_eq!(UnknownNumber(13).to_string(), "unknown number 13");
@@ -172,4 +174,5 @@ fn archive() {
     let (plain, desk) = (Settings::default(), Settings::desk());
     assert_eq!((plain.delay, plain.fee), (PLAIN_DELAY, 0));
     assert_eq!((desk.delay, desk.fee), (DESK_DELAY, 0));
+    assert_eq!([plain.dates, desk.dates], [None; 2]);
 }

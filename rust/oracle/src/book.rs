@@ -1,5 +1,8 @@
 //! The book, its channels and when it is sound; by document 02 No. 1 an opening gives the default
-//! delay, by its No. 5 a channel remembers leaves, by its No. 7 an opening gives the rate of the fee.
+//! delay, by its No. 5 a channel remembers leaves, by its No. 7 an opening gives the rate of the
+//! fee, by its No. 8 the dates on which the bank is shut.
+use crate::calendar::Date;
+use crate::shut::Shut;
 use std::ops::RangeInclusive;
 
 /// Channels of a book.
@@ -72,6 +75,8 @@ pub struct Book {
     pub default_delay: u32,
     /// What the desk keeps of each payment to the merchant, r of document 02 No. 7.
     pub rate: u32,
+    /// The days on which no deadline falls, of document 02 No. 8.
+    pub shut: Shut,
     /// The clock.
     pub clock: u64,
     /// The channels by their numbers.
@@ -136,6 +141,7 @@ impl Book {
             id,
             default_delay: PLAIN_DEFAULT,
             rate: PLAIN_RATE,
+            shut: Shut::NONE,
             clock: 0,
             channels: [Channel::UNUSED; CHANNELS],
         }
@@ -144,12 +150,19 @@ impl Book {
     /// The plain opening: makes the book fresh and answers 0; an id that is not 16 bytes long gives
     /// 2.
     pub fn open(&mut self, id: &[u8]) -> u8 {
-        self.open_with(id, PLAIN_DEFAULT, PLAIN_RATE)
+        self.open_with(id, PLAIN_DEFAULT, PLAIN_RATE, None)
     }
 
-    /// The opening that gives its default, of document 02 No. 1, and its rate, of No. 7: after the
-    /// id, a default out of range gives 14, then a rate above 1,000 gives 20.
-    pub fn open_with(&mut self, id: &[u8], default_delay: u32, rate: u32) -> u8 {
+    /// The opening that gives its default, of document 02 No. 1, its rate, of No. 7, and at times a
+    /// list of dates, of No. 8: after the id, a default out of range gives 14, then a rate above
+    /// 1,000 gives 20, then the list 21 or 22.
+    pub fn open_with(
+        &mut self,
+        id: &[u8],
+        default_delay: u32,
+        rate: u32,
+        dates: Option<&[Date]>,
+    ) -> u8 {
         let Ok(id) = id.try_into() else {
             return 2;
         };
@@ -159,20 +172,26 @@ impl Book {
         if rate > HIGHEST_RATE {
             return 20;
         }
+        let shut = match dates.map_or(Ok(Shut::NONE), Shut::of) {
+            Ok(shut) => shut,
+            Err(refusal) => return refusal,
+        };
         *self = Book {
             default_delay,
             rate,
+            shut,
             ..Book::fresh(id)
         };
         0
     }
 
-    /// Whether the book is sound. Default and rate are values set at opening, so their limits are
-    /// kept.
+    /// Whether the book is sound. Default, rate and dates are values set at opening, so their
+    /// limits are kept.
     pub fn sound(&self) -> bool {
         self.marked
             && DELAYS.contains(&self.default_delay)
             && self.rate <= HIGHEST_RATE
+            && self.shut.sound()
             && self.clock <= LARGEST
             && self.channels.iter().all(Channel::sound)
     }

@@ -1,6 +1,6 @@
 //! A command on a book: checks, then what it changes and pays. A delay of 0 is read as document 02
 //! No. 1 has it, a customer who deposits nothing as its No. 2, a leaf that is used again as its
-//! No. 5; a payment to the merchant is divided as its No. 7 has it.
+//! No. 5; a payment to the merchant is divided as its No. 7 has it, a deadline moved as its No. 8.
 use crate::book::{Book, Channel, Party};
 use crate::check::check;
 use crate::command::{Command, Order};
@@ -100,7 +100,8 @@ fn carry_out(book: &mut Book, command: &Command, leaf: Option<u32>) -> (u64, u64
     let channel = &mut book.channels[usize::from(n)];
     let paid = payment(channel, command.order);
     let status = next_status(channel, command.order);
-    store(channel, book.clock, book.default_delay, command.order);
+    let deadline = book.shut.moved(book.clock + u64::from(channel.delay));
+    store(channel, deadline, book.default_delay, command.order);
     remember(channel, command.order, leaf);
     channel.status = status;
     paid
@@ -136,9 +137,9 @@ fn next_status(channel: &Channel, order: Order) -> u8 {
     }
 }
 
-/// Stores the values that a command sets beside the status; the rule for a delay of 0 reads the
-/// book's default.
-fn store(channel: &mut Channel, clock: u64, default_delay: u32, order: Order) {
+/// Stores the values that a command sets beside the status; `deadline` is that of a closing, and
+/// the rule for a delay of 0 reads the book's default.
+fn store(channel: &mut Channel, deadline: u64, default_delay: u32, order: Order) {
     match order {
         Order::Establish {
             customer,
@@ -160,9 +161,9 @@ fn store(channel: &mut Channel, clock: u64, default_delay: u32, order: Order) {
         Order::CustomerCloses { lock, customer, .. } => {
             channel.lock = *lock;
             channel.kept = customer;
-            channel.deadline = clock + u64::from(channel.delay);
+            channel.deadline = deadline;
         }
-        Order::MerchantCloses => channel.deadline = clock + u64::from(channel.delay),
+        Order::MerchantCloses => channel.deadline = deadline,
         _ => {}
     }
 }

@@ -1,5 +1,7 @@
 //! The vectors: published ones, and others from outside.
 mod bank;
+mod calendar;
+mod days;
 mod given;
 mod journals;
 mod lms;

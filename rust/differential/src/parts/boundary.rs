@@ -2,6 +2,7 @@
 
 mod bank;
 mod journal;
+mod opening;
 mod signer;
 
 use super::strings::string;
@@ -18,8 +19,8 @@ type Call = fn(&mut Rng, &mut Fenced) -> Outcome;
 const CALLS: &[Call] = &[
     hash,
     check,
-    open,
-    open_with,
+    opening::open,
+    opening::open_with,
     apply,
     journal::read,
     journal::run,
@@ -78,16 +79,6 @@ fn refused_with_2(call: &str, refusal: u32, wrong: bool) -> Outcome {
     same(call, &refusal, &(2 * u32::from(wrong)))
 }
 
-/// Whether an opening that was refused left every byte of the book.
-fn stays(call: &str, refusal: u32, before: &[u8], book: &Fenced) -> Outcome {
-    match refusal == 0 || book.bytes() == before {
-        true => Ok(()),
-        false => Err(format!(
-            "{call}: refused with {refusal}, and the book changed"
-        )),
-    }
-}
-
 fn hash(rng: &mut Rng, _: &mut Fenced) -> Outcome {
     let bytes = rng.bytes_of(&[0, 1, 55, 56, 64, 65, 1_000, 65_536, 65_537]);
     let mut bytes = lend(rng, bytes);
@@ -134,46 +125,6 @@ fn check(rng: &mut Rng, _: &mut Fenced) -> Outcome {
     match (verdict.bytes(), leaf.bytes()) {
         ([0], [0, 0, 0, 0]) | ([1], [_, 0..=3, 0, 0]) => Ok(()),
         other => Err(format!("verdict and leaf: {other:?}")),
-    }
-}
-
-fn open(rng: &mut Rng, book: &mut Fenced) -> Outcome {
-    let id = rng.bytes_of(&[0, 1, 15, 17, 16]);
-    let mut id = lend(rng, id);
-    let before = book.bytes().to_vec();
-    // SAFETY: the book is writable and the id readable.
-    let refusal = unsafe { raw::finaruvom_open(book.pointer(), id.pointer(), id.length()) };
-    kept("open", &[book], &[&id])?;
-    stays("open", refusal, &before, book)?;
-    refused_with_2("open", refusal, id.length() != 16)
-}
-
-fn open_with(rng: &mut Rng, book: &mut Fenced) -> Outcome {
-    let id = rng.bytes_of(&[0, 1, 15, 17, 16, 16, 16]);
-    let mut id = lend(rng, id);
-    let settings = raw::Settings {
-        delay: rng.pick(&[0, 3_599, 3_600, 172_800, 2_592_000, 2_592_001, u32::MAX]),
-        fee: rng.pick(&[0, 1, 250, 1_000, 1_001, u32::MAX]),
-    };
-    let before = book.bytes().to_vec();
-    let book_at = book.pointer::<raw::Book>();
-    // SAFETY: the book is writable and the id readable.
-    let (refusal, raw::Setup { delay, fee }) = unsafe {
-        let refusal = raw::finaruvom_open_with(book_at, id.pointer(), id.length(), settings);
-        (refusal, (*book_at).setup)
-    };
-    kept("open_with", &[book], &[&id])?;
-    stays("open_with", refusal, &before, book)?;
-    let expected = match (id.length(), settings.delay, settings.fee) {
-        (16, 3_600..=2_592_000, 0..=1_000) => 0,
-        (16, 3_600..=2_592_000, _) => 20,
-        (16, ..) => 14,
-        _ => 2,
-    };
-    same("open_with", &refusal, &expected)?;
-    match refusal {
-        0 => same("setup", &(delay, fee), &(settings.delay, settings.fee)),
-        _ => Ok(()),
     }
 }
 

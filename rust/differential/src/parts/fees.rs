@@ -3,11 +3,12 @@
 use super::runs::FORMER;
 use super::World;
 use crate::ledger::divided;
-use crate::pair::{same, Opening, Outcome, Pair};
+use crate::opening::{Given, Opening};
+use crate::pair::{same, Outcome, Pair};
 use crate::rng::Rng;
 use crate::tally::Tally;
 use finaruvom::raw::Book;
-use finaruvom::{Cents, Settings};
+use finaruvom::Cents;
 use oracle::{fee, CHANNELS, HIGHEST_RATE, LARGEST, SHORTEST_DELAY};
 
 /// Cases in a row that have every rate together, as many as a run has at least.
@@ -67,7 +68,10 @@ fn neighbours(amount: u64, rate: u32) -> Vec<u64> {
 fn closing(rng: &mut Rng, rate: u32, amounts: &[u64], tally: &mut Tally) -> Result<Pair, String> {
     let id = rng.array();
     let mut pair = Pair::fresh(id)?;
-    let how = Opening::With(Settings::default().with_fee(rate));
+    let how = Opening::With(Given {
+        fee: rate,
+        ..Given::default()
+    });
     same("opening", &pair.open(&id, &how, tally)?, &0)?;
     let mut book: Book = pair.library.as_raw().clone();
     for (channel, amount) in book.channels.iter_mut().zip(amounts) {

@@ -4,7 +4,7 @@ use differential::bridge::{to_answer, to_raw};
 use differential::lives::{lives, Terms};
 use differential::rng::Rng;
 use differential::wallet::Wallet;
-use finaruvom::{Book, Settings};
+use finaruvom::{Book, Date, Settings};
 use oracle::PLAIN_DEFAULT;
 
 /// Two books that are given the same commands.
@@ -29,18 +29,31 @@ impl Desk<'_> {
     }
 }
 
-/// A life of one channel of a fresh book of any fee, at any time.
+/// Both books fresh, with any fee and a shut date.
+fn opened(rng: &mut Rng, id: [u8; 16]) -> (Book, oracle::Book) {
+    let fee = rng.pick(&[0, 1, 250, 999, 1_000]);
+    let year = 1970 + rng.below(430) as u32;
+    let dates = [Date::new(year, 5, 1)];
+    let settings = Settings::default().with_fee(fee).with_dates(&dates);
+    let library = Book::open_with(&id, &settings).unwrap();
+    let (month, day) = (5, 1);
+    let dates = [oracle::Date { year, month, day }];
+    let mut oracle = oracle::Book::fresh(id);
+    assert_eq!(oracle.open_with(&id, PLAIN_DEFAULT, fee, Some(&dates)), 0);
+    (library, oracle)
+}
+
+/// A life of one channel of a fresh book, at any time.
 fn live(rng: &mut Rng, wallet: &mut Wallet, life: &[u8]) {
     let n = rng.below(64);
     let id = rng.array();
-    let fee = rng.pick(&[0, 1, 250, 999, 1_000]);
     let terms = Terms::new(rng, wallet, id, n as u16, life);
+    let (library, oracle) = opened(rng, id);
     let mut desk = Desk {
         wallet,
-        library: Book::open_with(&id, &Settings::default().with_fee(fee)).unwrap(),
-        oracle: oracle::Book::fresh(id),
+        library,
+        oracle,
     };
-    assert_eq!(desk.oracle.open_with(&id, PLAIN_DEFAULT, fee), 0);
     desk.file(&terms, 1, rng.number() % (1 << 62));
     for opcode in life {
         let deadline = desk.oracle.channels[n].deadline;

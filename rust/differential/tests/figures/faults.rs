@@ -7,13 +7,21 @@ use finaruvom::Seconds;
 type Keys = [[u8; 56]; 2];
 
 /// Ways to make a book unsound that leave channel 0 as it is.
-const UNSOUND: [fn(&mut Book); 11] = [
+const UNSOUND: [fn(&mut Book); 19] = [
     |book| book.mark ^= 1,
     |book| book.setup.delay = 3_599,
     |book| book.setup.delay = 2_592_001,
     |book| book.setup.delay = u32::MAX,
     |book| book.setup.fee = 1_001,
     |book| book.setup.fee = u32::MAX,
+    |book| book.setup.dated = 2,
+    |book| book.setup.dated = 256,
+    |book| book.setup.count = 65,
+    |book| book.setup.count = u32::MAX,
+    |book| book.setup.count = 2,
+    |book| (book.setup.count, book.setup.days[1]) = (3, 1),
+    |book| (book.setup.count, book.setup.days[0]) = (1, 157_054),
+    |book| (book.setup.count, book.setup.days[0]) = (1, u32::MAX),
     |book| book.clock = Seconds(1 << 63),
     |book| book.channels[63].status = 7,
     |book| book.channels[63].status = 256,

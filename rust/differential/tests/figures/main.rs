@@ -1,6 +1,7 @@
 //! The papers' figures and the order of the checks, through the library alone.
 mod case;
 mod credit;
+mod days;
 mod defaults;
 mod desk;
 mod edges;

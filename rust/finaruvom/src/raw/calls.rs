@@ -18,7 +18,7 @@ extern "C" {
     ///
     /// Nothing is asked.
     #[must_use]
-    pub fn finaruvom_layout_5() -> u32;
+    pub fn finaruvom_layout_6() -> u32;
 
     /// Writes the digest of at most 65,536 bytes and answers 0; of more, zeros and 2.
     ///
@@ -79,18 +79,23 @@ extern "C" {
     #[must_use]
     pub fn finaruvom_open(book: *mut Book, id: *const u8, id_n: usize) -> u32;
 
-    /// Makes any lent book fresh, with these settings, and answers 0; an id that is not 16 bytes
-    /// long gives 2, then a default delay out of range 14, then a fee above 1,000 20.
+    /// Makes any lent book fresh, with these settings and dates, and answers 0; an id that is not
+    /// 16 bytes long gives 2, then a default delay out of range 14, then a fee above 1,000 20, then
+    /// a date that does not exist 21, then more than 64 of them or one that is not later than the
+    /// one before it 22. Where the settings say that there is no list, no date is looked at.
     ///
     /// # Safety
     ///
-    /// The book is aligned, can be written and overlaps nothing else; `id_n` bytes can be read.
+    /// The book is aligned, can be written and overlaps nothing else; `id_n` bytes and `dates_n`
+    /// dates, aligned, can be read.
     #[must_use]
     pub fn finaruvom_open_with(
         book: *mut Book,
         id: *const u8,
         id_n: usize,
         settings: Settings,
+        dates: *const u32,
+        dates_n: usize,
     ) -> u32;
 
     /// Carries a command out on the lent book, or refuses it.
