@@ -13,12 +13,13 @@
 enum { N = 5, CLOCK = 1000, FEE = 250, STACK = 1 << 19, PAINT = 0xA5, MUTUAL = 5, MAKING_COPIES = 1, SIGNING_COPIES = 3 };
 enum { SETTLES = 1024, PAYMENTS = 2 * SETTLES, DATES = 1000, MOVED = DAY_BEHIND * 86400 };
 
-// What a call is lent, how often it copies that at most, and how many bytes it copies in all; a key making copies some 780 for each leaf.
+// What a call is lent, how often it copies that at most, and how many bytes it copies in all; a signature check copies some 2,500, a key
+// making some 780 for each leaf.
 struct lent {
     const char *name;
     size_t copies, bytes;
 };
-static const struct lent lent_book = {"book", 2, 2 * FINARUVOM_BOOK_SIZE + 4096};
+static const struct lent lent_book = {"book", 2, 2 * FINARUVOM_BOOK_SIZE + 7168};
 static const struct lent lent_to_open = {"book", 1, FINARUVOM_BOOK_SIZE + 4096};
 static const struct lent lent_to_make = {"signer", MAKING_COPIES, MAKING_COPIES * FINARUVOM_SIGNER_SIZE + 800 * FINARUVOM_LEAVES};
 static const struct lent lent_to_sign = {"signer", SIGNING_COPIES, SIGNING_COPIES * FINARUVOM_SIGNER_SIZE + 4096};

@@ -4,10 +4,14 @@ use mathlib.Core.Bool.{true}
 use mathlib.Core.List.{List}
 use Prim.Native.Nat.{ℕ}
 use lib.ListN.{length}
-use borrow.Author.Tests.{ne-eqb, eqb-true}
+use lib.Seq.{take-all}
+use native.Mathlib.Omega.{arith}
+use borrow.Author.Tests.{eq-eqb, ne-eqb, eqb-true}
+use Rattle.wire.specs.Parts.{part}
+use Rattle.calendar.specs.Days.{rising}
 use Rattle.calendar.specs.Lists.{inOrder, keptDays}
-use Rattle.machine.specs.Checks.{clean, judge}
-use Rattle.machine.specs.Opening.{Opening, datesOf, openingChecks, keptBy, freshBook, fresh, opening}
+use Rattle.machine.specs.Checks.{clean, ask, judge}
+use Rattle.machine.specs.Opening.{Opening, plainly, datesOf, openingChecks, keptBy, setupOf, freshBook, fresh, opening}
 use Rattle.machine.specs.declared.state.Book.{Book}
 use Rattle.machine.specs.declared.answers.Judged.{Judged}
 use Rattle.machine.proofs.Judging.{judge-passed}
@@ -32,3 +36,15 @@ module _ (o : Opening) (j : Judged) (e : j ≡ judge clean (openingChecks o)) wh
 pub fresh-by : (o : Opening) (id days : List ℕ) (count : ℕ) → id ≡ o .id → days ≡ keptDays (datesOf o) → count ≡ length (datesOf o) → freshBook id (keptBy (o .settings) days count) ≡ fresh o
 unfolding fresh
 fresh-by o id days count i d n = rw (i, d, n)
+
+pub part-all : (id : List ℕ) → length id ≡ 16 → part id 0 16 ≡ id
+part-all id h = take-all 16 id (omega arith)
+
+-- The plain opening fails by its id alone.
+pub plainly-no : (lent : Book) (id : List ℕ) → (length id ≡ 16 → ⊥) → record { book = lent; refusal = 2 } ≡ opening lent (plainly id)
+unfolding opening ask rising
+plainly-no lent id h = rw (ne-eqb _ _ h)
+
+pub plainly-yes : (lent : Book) (id : List ℕ) → length id ≡ 16 → (b : Book) → b ≡ freshBook (part id 0 16) (setupOf (plainly id)) → record { book = b; refusal = 0 } ≡ opening lent (plainly id)
+unfolding fresh opening ask rising
+plainly-yes lent id h b e = rw (eq-eqb _ _ h, e, part-all id h)

@@ -1,5 +1,6 @@
 // The channel that is due next.
-use command::sound;
+use command::sound_channels;
+use command::sound_header;
 use machine::Book;
 use machine::Channel;
 use machine::Found;
@@ -46,7 +47,8 @@ pub fn due_of(book: Book) -> Found
     ensures { λ r. ⌜ valueOf r ≡ due book ⌝ }
 {
     let best = soonest_of(book);
-    if sound(book) & best.some {
+    let steady = sound_header(book.mark, book.setup, book.clock) & sound_channels(book);
+    if steady & best.some {
         return Found::At(best.number);
     }
     Found::Nothing

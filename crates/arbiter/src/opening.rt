@@ -3,6 +3,7 @@ use checks::tested;
 use checks::unjudged;
 use days::Listed;
 use days::list_of;
+use days::unlisted;
 use fees::fee_fits;
 use holdings::delay_fits;
 use machine::Book;
@@ -131,10 +132,16 @@ pub fn opened_with(lent: Book, id: &[u8], settings: Settings, dates: &[u32]) -> 
     Opened { book, refusal: 0 }
 }
 
-// The plain opening: what stands in the list is not looked at.
+// The plain opening, which the id alone can fail.
 pub fn opened(lent: Book, id: &[u8]) -> Opened
     ensures { λ r. ⌜ r ≡ opening lent (plainly (now (id .entry))) ⌝ }
 {
-    let none = [0u32; 1];
-    opened_with(lent, id, plain_settings(), &none)
+    if id.len() != 16 {
+        return Opened {
+            book: lent,
+            refusal: 2,
+        };
+    }
+    let book = fresh_book(id_at(id, 0), plain_settings(), unlisted());
+    Opened { book, refusal: 0 }
 }

@@ -1,5 +1,6 @@
 // A reading of one channel of a book.
-use command::sound;
+use command::sound_channels;
+use command::sound_header;
 use holdings::read_channel;
 use holdings::unread;
 use machine::Book;
@@ -11,7 +12,8 @@ ghost use Rattle.machine.specs.Book.{reading};
 pub fn read_of(book: Book, n: usize) -> Reading
     ensures { λ r. ⌜ r ≡ reading book n ⌝ }
 {
-    if !sound(book) {
+    let steady = sound_header(book.mark, book.setup, book.clock) & sound_channels(book);
+    if !steady {
         return unread(99);
     }
     if n >= 64 {

@@ -21,19 +21,12 @@ use Rattle.calendar.proofs.Counting.{number-fits}
 abbrev pub inTime : ℕ → Bool
 inTime d = ltb d numbered
 
--- The day at place i is above the one before it.
-abbrev pub rises : List ℕ → ℕ → Bool
-rises l i = eqb i 0 || ltb (getD l (i - 1) 0) (getD l i 0)
+-- The day at place i is above the one before it, where there is one; and it is a day number.
+abbrev pub Follows : ℕ → ℕ → ℕ → Bool
+Follows before day i = (eqb i 0 || ltb before day) && inTime day
 
--- The day at place i is a day number too: as the code takes it.
-abbrev pub Follows : List ℕ → ℕ → Bool
-Follows l i = rises l i && inTime (getD l i 0)
-
-pub follows-first : (l : List ℕ) (i : ℕ) → i ≡ 0 → inTime (getD l 0 0) ≡ Follows l i
-follows-first l i e = rw e
-
-pub follows-next : (l : List ℕ) (i : ℕ) → (i ≡ 0 → ⊥) → (ltb (getD l (i - 1) 0) (getD l i 0) && inTime (getD l i 0)) ≡ Follows l i
-follows-next l i h = rw (ne-eqb i 0 h)
+rises : List ℕ → ℕ → Bool
+rises l i = eqb i 0 || ltb (getD (0 ∷ l) i 0) (getD l i 0)
 
 above-more : (p : ℕ) (l : List ℕ) (i : ℕ) → i < length l → (above p (take i l) && ltb (getD (p ∷ l) i 0) (getD l i 0)) ≡ above p (take (suc i) l)
 unfolding above
@@ -43,12 +36,10 @@ above-more p (x ∷ l) (suc i) h =
     and-assoc (ltb p x) (above x (take i l)) (ltb (getD (x ∷ l) i 0) (getD l i 0)) ∙ ap (λ (t : Bool). ltb p x && t) (above-more x l i (omega arith))
 
 rising-more : (l : List ℕ) (i : ℕ) → i < length l → (rising (take i l) && rises l i) ≡ rising (take (suc i) l)
-unfolding rising above
+unfolding rising above rises
 rising-more [] i h = let z : ⊥ = omega arith in absurd z
 rising-more (x ∷ l) zero h = refl
-rising-more (x ∷ l) (suc i) h =
-    let e : suc i - 1 ≡ i = omega arith in
-    rw (ne-eqb (suc i) 0 (λ q. omega arith), e) (above-more x l i (omega arith))
+rising-more (x ∷ l) (suc i) h = rw (ne-eqb (suc i) 0 (λ q. omega arith)) (above-more x l i (omega arith))
 
 -- A list with a day that is not above the one before it does not rise.
 not-above : (p : ℕ) (l : List ℕ) (i : ℕ) → i < length l → getD l i 0 ≤ getD (p ∷ l) i 0 → above p l ≡ false
@@ -91,20 +82,24 @@ crossed true true true x y = refl
 abbrev pub Sound : List ℕ → ℕ → Bool → ℕ → Type 0
 Sound days count ok i = (i ≤ 64) × (ok ≡ (leb count most && (rising (take i (take count days)) && all inTime (take i (take count days)))))
 
+before-take : (l : List ℕ) (k i : ℕ) → i < k → getD (0 ∷ take k l) i 0 ≡ getD (0 ∷ l) i 0
+before-take l k zero h = refl
+before-take l k (suc i) h = getD-take k l i 0 (omega arith)
+
 pub sound-none : (days : List ℕ) (count : ℕ) → Sound days count (leb count most) 0
 unfolding rising
 sound-none days count = (omega arith, sym (and-true _))
 
 module _ (days : List ℕ) (count : ℕ) (n : length days ≡ 64) (ok : Bool) (i : ℕ) (t : Sound days count ok i) where
-  pub sound-more : i < 64 → i < count → (x : Bool) → x ≡ Follows days i → Sound days count (ok && x) (i + 1)
-  sound-more h k x e =
+  pub sound-more : i < 64 → i < count → (x : Bool) (before day : ℕ) → before ≡ getD (0 ∷ days) i 0 → day ≡ getD days i 0 → x ≡ Follows before day i → Sound days count (ok && x) (i + 1)
+  unfolding rises
+  sound-more h k x before day b d e =
       let l = take count days in
       let m : i < length l = rw (length-take count days) (omega (arith, n)) in
       let g = getD-take count days i 0 k in
-      let before : getD l (i - 1) 0 ≡ getD days (i - 1) 0 = getD-take count days (i - 1) 0 (omega arith) in
-      let r : (rising (take i l) && rises days i) ≡ rising (take (suc i) l) = rw (g, before) at (rising-more l i m) in
-      let a : (all inTime (take i l) && inTime (getD days i 0)) ≡ all inTime (take (suc i) l) = rw g at (all-more inTime l i 0 m) in
-      (omega arith, rw (t .1, e, add-one, ← r, ← a) (crossed (leb count most) (rising (take i l)) (all inTime (take i l)) (rises days i) (inTime (getD days i 0))))
+      let r : (rising (take i l) && (eqb i 0 || ltb before day)) ≡ rising (take (suc i) l) = rw (b, d) (rw (g, before-take days count i k) at (rising-more l i m)) in
+      let a : (all inTime (take i l) && inTime day) ≡ all inTime (take (suc i) l) = rw d (rw g at (all-more inTime l i 0 m)) in
+      (omega arith, rw (t .1, e, add-one, ← r, ← a) (crossed (leb count most) (rising (take i l)) (all inTime (take i l)) (eqb i 0 || ltb before day) (inTime day)))
 
   pub sound-past : i < 64 → count ≤ i → Sound days count ok (i + 1)
   sound-past h k =

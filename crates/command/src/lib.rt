@@ -3,5 +3,7 @@ mod soundness;
 mod steps;
 
 pub use soundness::sound;
+pub use soundness::sound_channels;
+pub use soundness::sound_header;
 pub use steps::size_of;
 pub use steps::step;

@@ -11,7 +11,8 @@ use machine::Setup;
 ghost use mathlib.Core.Path.{_≡_};
 ghost use mathlib.Core.Bool.{_&&_};
 ghost use lib.Dec.{eqb, leb};
-ghost use Rattle.machine.specs.Book.{limit, theMark, soundSetup, sound};
+ghost use Rattle.wire.specs.Parts.{all};
+ghost use Rattle.machine.specs.Book.{limit, theMark, soundChannel, soundSetup, sound};
 
 // What the opening fixed is in its limits.
 fn sound_setup(setup: Setup) -> bool
@@ -31,13 +32,20 @@ pub fn sound_header(mark: u64, setup: Setup, clock: Seconds) -> bool
     (mark == MARK) & (clock.0 <= LIMIT) & sound_setup(setup)
 }
 
-pub fn sound(book: Book) -> bool
-    ensures { λ r. ⌜ r ≡ sound book ⌝ }
+// Apart from the rest, so that a reading and due, which ask for both, make no copy of the book for it.
+pub fn sound_channels(book: Book) -> bool
+    ensures { λ r. ⌜ r ≡ all soundChannel (book .channels) ⌝ }
 {
-    let mut ok = sound_header(book.mark, book.setup, book.clock);
+    let mut ok = true;
     for i in 0..64 {
         let ch = book.channels[i];
         ok = ok & sound_channel(ch);
     }
     ok
+}
+
+pub fn sound(book: Book) -> bool
+    ensures { λ r. ⌜ r ≡ sound book ⌝ }
+{
+    sound_header(book.mark, book.setup, book.clock) & sound_channels(book)
 }

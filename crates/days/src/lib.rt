@@ -7,3 +7,4 @@ pub use deadlines::banked;
 pub use lists::Listed;
 pub use lists::list_of;
 pub use lists::sound_days;
+pub use lists::unlisted;

@@ -3,9 +3,10 @@ use crate::dates::day_number;
 use crate::dates::is_date;
 ghost use mathlib.Core.Path.{_≡_};
 ghost use mathlib.Core.Bool.{true, _&&_, _||_};
-ghost use Prim.Native.Nat.{_-_, _≤_, _<_};
+ghost use mathlib.Core.List.{[]};
+ghost use Prim.Native.Nat.{_≤_};
 ghost use lib.Dec.{eqb, ltb};
-ghost use lib.ListN.{length, getD};
+ghost use lib.ListN.{length};
 ghost use Rattle.calendar.specs.Calendar.{numbered};
 ghost use Rattle.calendar.specs.Lists.{given, allDates, inOrder, keptDays, soundDays};
 
@@ -17,15 +18,11 @@ pub struct Listed {
     pub fit: bool,
 }
 
-// Whether the day at a place is a day number, and above the one before it.
-fn follows(days: [u32; 64], i: usize) -> bool
-    requires { ⌜ i < 64 ⌝ }
-    ensures { λ r. ⌜ r ≡ ((eqb i 0 || ltb (getD days (i - 1) 0) (getD days i 0)) && ltb (getD days i 0) numbered) ⌝ }
+// Whether the day at place i is a day number, and above the one before it, where there is one.
+fn follows(before: u32, day: u32, i: usize) -> bool
+    ensures { λ r. ⌜ r ≡ ((eqb i 0 || ltb before day) && ltb day numbered) ⌝ }
 {
-    if i == 0 {
-        return days[0] < 157054;
-    }
-    (days[i - 1] < days[i]) & (days[i] < 157054)
+    ((i == 0) | (before < day)) & (day < 157054)
 }
 
 // Whether the first count of a book's days are at most 64 day numbers that rise.
@@ -33,10 +30,13 @@ pub fn sound_days(days: [u32; 64], count: u32) -> bool
     ensures { λ r. ⌜ r ≡ soundDays count days ⌝ }
 {
     let mut ok = count <= 64;
+    let mut before = 0;
     for i in 0..64 {
+        let day = days[i];
         if (i as u32) < count {
-            ok = ok & follows(days, i);
+            ok = ok & follows(before, day, i);
         }
+        before = day;
     }
     ok
 }
@@ -66,6 +66,18 @@ fn kept_days(dates: &[u32]) -> [u32; 64]
     days
 }
 
+// No list.
+pub fn unlisted() -> Listed
+    ensures { λ r. ⌜ r ≡ record { days = keptDays []; count = 0; exist = true; fit = true } ⌝ }
+{
+    Listed {
+        days: [0u32; 64],
+        count: 0,
+        exist: true,
+        fit: true,
+    }
+}
+
 // The dates that an opening is given: none where it is given no list.
 pub fn list_of(dated: bool, dates: &[u32]) -> Listed
     ensures { λ r. ⌜ r .exist ≡ allDates (given dated (now (dates .entry))) ⌝ }
@@ -73,12 +85,7 @@ pub fn list_of(dated: bool, dates: &[u32]) -> Listed
     ensures { λ r. ⌜ (r .fit ≡ true → (r .days ≡ keptDays (given dated (now (dates .entry)))) × (r .count ≡ length (given dated (now (dates .entry))))) ⌝ }
 {
     if !dated {
-        return Listed {
-            days: [0u32; 64],
-            count: 0,
-            exist: true,
-            fit: true,
-        };
+        return unlisted();
     }
     let exist = all_exist(dates);
     if dates.len() > 64 {

@@ -129,11 +129,21 @@ fn checks_9() {
     for time in [345_600, 345_601, LARGEST] {
         assert_eq!(ends(&book, time), [9, 0], "{time}");
     }
+}
+
+/// An answer on the weekend has a deadline of its own, of which Monday's stays.
+#[test]
+fn answers() {
     let answer = Parties::new().close();
-    for (time, refusal) in [(172_800, 0), (345_599, 0), (345_600, 9)] {
+    for (time, refusal, deadline) in [
+        (172_800, 0, 345_600),
+        (345_599, 0, 431_999),
+        (345_600, 9, 345_600),
+    ] {
         let mut book = closed(Some(&[]), DAY, 86_400, &[8]);
         file(&mut book, &[clock(time)]);
         assert_eq!(apply(&mut book, &answer).refusal, refusal, "{time}");
+        assert_eq!(book.channels[0].deadline, deadline, "{time}");
     }
 }
 

@@ -1,13 +1,8 @@
-use Prim.Native.Nat.{ℕ}
 use native.Mathlib.Omega.{arith}
 use mathlib.Core.Path.{_≡_, _∙_}
-use mathlib.Core.List.{List}
-use lib.ListN.{length}
-use lib.Seq.{take-all}
-use Rattle.wire.specs.Parts.{part}
 use Rattle.machine.specs.Checks.{clean, judge}
 use Rattle.machine.specs.Opening.{Opening, under, openingChecks}
-use Rattle.arbiter.proofs.Openings.{opening-no, opening-yes, ordered, whole-id, fresh-by}
+use Rattle.arbiter.proofs.Openings.{opening-no, opening-yes, ordered, whole-id, fresh-by, part-all}
 use borrow.Author.Needs.{needs}
 use Rattle.arbiter.proofs.opening.opened_with.Statement.{statement}
 use Rattle.arbiter.proofs.opening.opened_with.Tie as tie
@@ -24,9 +19,6 @@ module _ (k : tie.After-tested5) where
       let t = d .before .before in
       let l = t .before .before in
       k .tested5 .ensures .0 ∙ rw (k .before .tested4 .ensures .0, k .before .before .tested3 .ensures .0, f .fee-fits .ensures, f .before .tested2 .ensures .0, d .delay-fits .ensures, t .tested .ensures .0, t .before .unjudged .ensures .0, l .list-of .ensures .0, l .list-of .ensures .1 .0)
-
-part-all : (id : List ℕ) → length id ≡ 16 → part id 0 16 ≡ id
-part-all id h = take-all 16 id (omega arith)
 
 returns : tie.Need-returns
 returns c = let k = c .before .before in opening-no (asked k) _ (checked k) _ (c .if1 .taken)

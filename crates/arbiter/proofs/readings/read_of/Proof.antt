@@ -1,42 +1,40 @@
-use mathlib.Core.Path.{sym, _∙_}
+use mathlib.Core.Path.{_≡_, sym, _∙_}
+use mathlib.Core.Bool.{true, _&&_}
 use borrow.Author.Tests.{lt-ltb, le-ltb, not-true, not-false}
-use Rattle.machine.specs.Book.{reading}
+use Rattle.machine.specs.Book.{sound, reading}
 use Rattle.command.proofs.SoundBook.{sound-at}
 use borrow.Author.Needs.{needs}
 use Rattle.arbiter.proofs.readings.read_of.Statement.{statement}
 use Rattle.arbiter.proofs.readings.read_of.Tie as tie
 
+-- Soundness is tested in two parts.
+tested : (k : tie.After-sound-channels) → (k .before .sound-header .result && k .sound-channels .result) ≡ sound (k .before .before .before .before .args .t1)
+unfolding sound
+tested k = rw (k .before .sound-header .ensures, k .sound-channels .ensures)
+
+steady : (k : tie.Else1) → sound (k .before .before .before .before .before .args .t1) ≡ true
+steady k = sym (tested (k .before)) ∙ not-false _ (k .if1 .left)
+
 returns : tie.Need-returns
 unfolding reading
-returns c =
-    let c₂ = c .before .before in
-    c .unread .ensures ∙ rw (sym (c₂ .sound .ensures) ∙ not-true _ (c .before .if1 .taken))
+returns c = c .unread .ensures ∙ rw (sym (tested (c .before .before)) ∙ not-true _ (c .before .if1 .taken))
 
 returns-2 : tie.Need-returns-2
 unfolding reading
-returns-2 c =
-    let c₂ = c .before .before in
-    let c₃ = c₂ .before in
-    c .unread2 .ensures ∙ rw (sym (c₃ .sound .ensures) ∙ not-false _ (c₂ .if1 .left), le-ltb _ _ (c .before .if2 .taken))
+returns-2 c = c .unread2 .ensures ∙ rw (steady (c .before .before), le-ltb _ _ (c .before .if2 .taken))
 
 read-channel-requires : tie.Need-read-channel-requires
-read-channel-requires c κs =
-    let c₂ = c .before .before in
-    let c₃ = c₂ .before in
-    sound-at _ _ (sym (c₃ .sound .ensures) ∙ not-false _ (c₂ .if1 .left))
+read-channel-requires c κs = sound-at _ _ (steady (c .before .before))
 
 returns-3 : tie.Need-returns-3
 unfolding reading
-returns-3 c =
-    let c₂ = c .before .before in
-    let c₃ = c₂ .before in
-    let c₄ = c₃ .before in
-    c .read-channel .ensures ∙ rw (sym (c₄ .sound .ensures) ∙ not-false _ (c₃ .if1 .left), lt-ltb _ _ (c₂ .if2 .left))
+returns-3 c = c .read-channel .ensures ∙ rw (steady (c .before .before .before), lt-ltb _ _ (c .before .before .if2 .left))
 
 pub read-of-spec : {M : Type 1} → statement M
 read-of-spec =
     tie.close
     (tie.spec
+    (λ c κs. search needs)
     (λ c κs. search needs)
     (λ c κs. search needs)
     returns

@@ -7,7 +7,7 @@ use Rattle.days.proofs.lists.list_of.Statement.{statement}
 use Rattle.days.proofs.lists.list_of.Tie as tie
 
 returns : tie.Need-returns
-returns c = let a = c .before .before .args in no-list (a .dated) (a .dates .now) (not-true _ (c .if1 .taken))
+returns c = let a = c .before .before .before .args in rw (c .unlisted .ensures) (no-list (a .dated) (a .dates .now) (not-true _ (c .before .if1 .taken)))
 
 returns-2 : tie.Need-returns-2
 returns-2 c =
@@ -26,6 +26,7 @@ pub list-of-spec : {M : Type 1} → statement M
 list-of-spec =
     tie.close
     (tie.spec
+    (λ c κs. search needs)
     returns
     (λ c κs. search needs)
     returns-2
