@@ -2,13 +2,14 @@
 use mathlib.Core.Path.{_≡_, refl}
 use mathlib.Core.Bool.{Bool, true, false, cond, _&&_}
 use mathlib.Core.List.{List, [], _∷_}
-use Prim.Native.Nat.{ℕ, zero, suc, _+_, _*_, _-_, _/_, _≤_, _<_}
+use Prim.Native.Nat.{ℕ, zero, suc, _+_, _*_, _-_, _/_, _%_, _≤_, _<_}
+use native.Mathlib.Decide.{le-ind}
 use native.Mathlib.Omega.{arith}
 use lib.Dec.{eqb, leb, ltb}
 use lib.ListN.{getD, List·getD-eq-default}
-use borrow.Author.Tests.{eqb-true, eqb-false, leb-true, ltb-false}
+use borrow.Author.Tests.{eqb-true, eqb-false, leb-true, ltb-true, ltb-false}
 use Rattle.wire.proofs.Laws.{and-both}
-use Rattle.calendar.specs.Calendar.{Date, date, leap, monthDays, before, yearDays, since, exists, dayOf, numbered, dayNumber, isDate, dateOf, CalendarMeans}
+use Rattle.calendar.specs.Calendar.{Date, date, leap, monthDays, before, yearDays, since, exists, dayOf, numbered, dayNumber, isDate, dateOf, weekday, CalendarMeans}
 
 -- ---- a test of every number below n
 
@@ -170,9 +171,74 @@ module _ (t : Date) (e : Exists t) where
       let s : suc (t .year) - 1970 ≡ suc k = omega (arith, e .year-low) in
       rw (s, y, m) (omega (arith, d, e .day-low, whole-year (leap (t .year))))
 
+-- A date lies before the next month, and before the next year.
+in-its-month : (t : Date) → Exists t → dayOf t < since (t .year - 1970) + before (leap (t .year)) (suc (t .month))
+unfolding before
+in-its-month t e = omega (arith, e .day-low, e .day-high)
+
+in-its-year : (t : Date) → Exists t → dayOf t < since (suc (t .year - 1970))
+unfolding since
+in-its-year t e =
+    let k = t .year - 1970 in
+    let y : 1970 + k ≡ t .year = omega (arith, e .year-low) in
+    let m = (months (leap (t .year)) (t .month) (e .month-high)) .within in
+    rw y (omega (arith, e .day-low, e .day-high, m))
+
+-- Years and months add up.
+climbs : (f : ℕ → ℕ) → ((j : ℕ) → f j ≤ f (suc j)) → (i j : ℕ) → i ≤ j → f i ≤ f j
+climbs f g i j h = le-ind (λ (k : ℕ). f i ≤ f k) (omega arith) (λ k _ r. omega (arith, r, g k)) j h
+
+more-years : (k : ℕ) → since k ≤ since (suc k)
+unfolding since
+more-years k = omega arith
+
+more-months : (long : Bool) (m : ℕ) → before long m ≤ before long (suc m)
+unfolding before
+more-months long m = omega arith
+
+-- Of two dates the later one has the larger number.
+module _ (t u : Date) (e : Exists t) (f : Exists u) where
+  later-year : t .year < u .year → dayOf t < dayOf u
+  later-year h =
+      let k = t .year - 1970 in
+      let s = climbs since more-years (suc k) (u .year - 1970) (omega (arith, e .year-low)) in
+      omega (arith, in-its-year t e, s)
+
+  later-month : t .year ≡ u .year → t .month < u .month → dayOf t < dayOf u
+  later-month y h =
+      let s = climbs (before (leap (u .year))) (more-months (leap (u .year))) (suc (t .month)) (u .month) h in
+      rw y (omega (arith, rw y at (in-its-month t e), s))
+
+  later-day : t .year ≡ u .year → t .month ≡ u .month → t .day < u .day → dayOf t < dayOf u
+  later-day y m h = rw (y, m) (omega (arith, e .day-low, h))
+
+in-turn : (x y : ℕ) → Exists (dateOf x) → Exists (dateOf y) → x < y → dayOf (dateOf x) < dayOf (dateOf y)
+in-turn x y e f h = go (ltb (x / 10000) (y / 10000)) refl (ltb (x / 100 % 100) (y / 100 % 100)) refl
+  where
+    go : (a : Bool) → ltb (x / 10000) (y / 10000) ≡ a → (b : Bool) → ltb (x / 100 % 100) (y / 100 % 100) ≡ b → dayOf (dateOf x) < dayOf (dateOf y)
+    go true p b q = later-year _ _ e f (ltb-true (x / 10000) (y / 10000) p)
+    go false p true q = let n = ltb-false (x / 10000) (y / 10000) p in later-month _ _ e f (omega (arith, n, h)) (ltb-true (x / 100 % 100) (y / 100 % 100) q)
+    go false p false q =
+        let n = ltb-false (x / 10000) (y / 10000) p in
+        let m = ltb-false (x / 100 % 100) (y / 100 % 100) q in
+        later-day _ _ e f (omega (arith, n, m, h)) (omega (arith, n, m, h)) (omega (arith, n, m, h))
+
+next-weekday : (d : ℕ) → weekday (suc d) ≡ cond (eqb (weekday d) 6) 0 (suc (weekday d))
+next-weekday d = go (eqb (weekday d) 6) refl
+  where
+    go : (x : Bool) → eqb (weekday d) 6 ≡ x → weekday (suc d) ≡ cond x 0 (suc (weekday d))
+    go true q = let n = eqb-true (weekday d) 6 q in omega (arith, n)
+    go false q = let n = eqb-false (weekday d) 6 q in omega (arith, n)
+
 pub calendar-means : CalendarMeans
 unfolding since before monthDays
-calendar-means = record { first = refl; next = λ t h. follows t (exists-parts t h) (ltb (t .day) (monthDays (leap (t .year)) (t .month))) refl (ltb (t .month) 12) refl }
+calendar-means = record {
+  first = refl;
+  next = λ t h. follows t (exists-parts t h) (ltb (t .day) (monthDays (leap (t .year)) (t .month))) refl (ltb (t .month) 12) refl;
+  thursday = refl;
+  week = next-weekday;
+  order = λ x y p q h. rw (← number-yes x p, ← number-yes y q) (in-turn x y (exists-parts _ p) (exists-parts _ q) h);
+}
   where
     follows : (t : Date) → Exists t → (x : Bool) → ltb (t .day) (monthDays (leap (t .year)) (t .month)) ≡ x → (y : Bool) → ltb (t .month) 12 ≡ y
         → dayOf (cond x (date (t .year) (t .month) (suc (t .day))) (cond y (date (t .year) (suc (t .month)) 1) (date (suc (t .year)) 1 1))) ≡ suc (dayOf t)

@@ -10,7 +10,8 @@ use lib.ListN.{length, take, drop, getD, length-take, drop-of-length-le}
 use lib.Seq.{drop-cons, getD-take}
 use borrow.Author.Tests.{eqb-true, eqb-false, eq-eqb, ne-eqb, ltb-true, ltb-false}
 use Rattle.wire.proofs.Laws.{and-both, clash, or-neither, or-right}
-use Rattle.calendar.specs.Days.{weekday, weekend, listed, shut, skip, past, nextOpen, above, rising, daySeconds, banked, NextOpen, BankedMeans}
+use Rattle.calendar.specs.Calendar.{weekday}
+use Rattle.calendar.specs.Days.{weekend, listed, shut, skip, past, nextOpen, above, rising, daySeconds, banked, NextOpen, BankedMeans}
 
 or-left : (a b : Bool) → a ≡ true → (a || b) ≡ true
 or-left a b h = rw h

@@ -2,7 +2,7 @@
 use mathlib.Core.Path.{_≡_}
 use mathlib.Core.Bool.{Bool, true, cond, not, _&&_, _||_}
 use mathlib.Core.List.{[], _∷_}
-use Prim.Native.Nat.{ℕ, zero, suc, _+_, _-_, _/_, _%_}
+use Prim.Native.Nat.{ℕ, zero, suc, _+_, _-_, _/_, _%_, _<_}
 use lib.ListN.{getD}
 use lib.Dec.{eqb, leb, ltb}
 
@@ -62,6 +62,10 @@ isDate x = exists (dateOf x)
 unfoldable pub dayNumber : ℕ → ℕ
 dayNumber x = cond (isDate x) (dayOf (dateOf x)) 0
 
+-- 0 for a Sunday to 6 for a Saturday.
+abbrev pub weekday : ℕ → ℕ
+weekday d = (d + 4) % 7
+
 -- ---- the claim
 
 -- The day after, by the lengths of months and years.
@@ -70,6 +74,11 @@ following t =
     cond (ltb (t .day) (monthDays (leap (t .year)) (t .month))) (date (t .year) (t .month) (suc (t .day)))
     (cond (ltb (t .month) 12) (date (t .year) (suc (t .month)) 1) (date (suc (t .year)) 1 1))
 
+-- Day 0 is 1970-01-01, a Thursday; the day after a date has the next number, and the next day of the week; of two dates the later one has the
+-- larger number.
 pub record CalendarMeans : Type 0 where
   pub first : dayOf (date 1970 1 1) ≡ 0
   pub next : (t : Date) → exists t ≡ true → dayOf (following t) ≡ suc (dayOf t)
+  pub thursday : weekday 0 ≡ 4
+  pub week : (d : ℕ) → weekday (suc d) ≡ cond (eqb (weekday d) 6) 0 (suc (weekday d))
+  pub order : (x y : ℕ) → isDate x ≡ true → isDate y ≡ true → x < y → dayNumber x < dayNumber y

@@ -2,14 +2,11 @@
 use mathlib.Core.Path.{_≡_}
 use mathlib.Core.Bool.{Bool, true, false, cond, _&&_, _||_}
 use mathlib.Core.List.{List, [], _∷_}
-use Prim.Native.Nat.{ℕ, suc, _+_, _*_, _/_, _%_, _≤_, _<_}
+use Prim.Native.Nat.{ℕ, suc, _+_, _*_, _/_, _≤_, _<_}
 use lib.Dec.{eqb, ltb}
+use Rattle.calendar.specs.Calendar.{weekday}
 
 -- ---- shut days: Saturdays, Sundays and the listed ones
-
--- 0 for a Sunday to 6 for a Saturday: day 0, 1970-01-01, is a Thursday.
-abbrev pub weekday : ℕ → ℕ
-weekday d = (d + 4) % 7
 
 unfoldable pub weekend : ℕ → Bool
 weekend d = eqb (weekday d) 6 || eqb (weekday d) 0

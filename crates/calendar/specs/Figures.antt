@@ -2,9 +2,9 @@
 use mathlib.Core.Path.{_≡_}
 use mathlib.Core.Bool.{true, false}
 use mathlib.Core.List.{List, [], _∷_, _++_}
-use Prim.Native.Nat.{ℕ, zero, suc, _+_, _-_, _*_, _^_}
-use Rattle.calendar.specs.Calendar.{date, dayOf, isDate, dayNumber}
-use Rattle.calendar.specs.Days.{weekday, shut, banked}
+use Prim.Native.Nat.{ℕ, zero, suc, _+_, _-_, _*_, _^_, _<_}
+use Rattle.calendar.specs.Calendar.{date, dayOf, isDate, dayNumber, weekday}
+use Rattle.calendar.specs.Days.{shut, banked}
 use Rattle.calendar.specs.Lists.{allDates, inOrder}
 
 pub record DateFigures : Type 0 where
@@ -54,13 +54,16 @@ pub record ListFigures : Type 0 where
   pub equal : inOrder (20260501 ∷ 20260501 ∷ []) ≡ false
   pub falling : inOrder (20260502 ∷ 20260501 ∷ []) ≡ false
 
--- What the two claims say of the day after a date, in its month, in the next and in the next year, and of a deadline on a Friday that is open
--- and on one that is shut.
+-- What the two claims say of the day after a date, in its month, in the next and in the next year, of the days after a Friday, of two dates, and
+-- of a deadline on a Friday that is open and on one that is shut.
 pub record Said : Type 0 where
   pub same-month : dayOf (date 2026 12 26) ≡ suc (dayOf (date 2026 12 25))
   pub common-year : dayOf (date 2100 3 1) ≡ suc (dayOf (date 2100 2 28))
   pub leap-year : dayOf (date 2000 2 29) ≡ suc (dayOf (date 2000 2 28))
   pub new-year : dayOf (date 2400 1 1) ≡ suc (dayOf (date 2399 12 31))
+  pub saturday : weekday 20813 ≡ 6
+  pub sunday : weekday 20814 ≡ 0
+  pub later : dayNumber 20261231 < dayNumber 20270101
   pub stays : banked (20811 ∷ 20813 ∷ []) (friday + 36000) ≡ friday + 36000
   pub opens : shut weeks 20823 ≡ false
   pub between : shut weeks 20821 ≡ true
