@@ -8,7 +8,7 @@ use native.Mathlib.Omega.{arith}
 use lib.Dec.{eqb, leb, ltb}
 use lib.ListN.{length, take, getD, replicate, set, length-map, length-take}
 use lib.Seq.{take-all, take-at, set-at, take-suc, getD-take, length-take-le}
-use borrow.Author.Tests.{lt-ltb, lt-leb, le-ltb, ne-eqb}
+use borrow.Author.Tests.{lt-ltb, lt-leb, le-leb, le-ltb, ne-eqb}
 use Rattle.wire.specs.Parts.{all}
 use Rattle.wire.proofs.Tested.{all-not, all-more}
 use Rattle.calendar.specs.Calendar.{numbered, dayNumber}
@@ -71,47 +71,30 @@ not-rising k l i h n e =
     let r = falling (take k l) i m (rw (getD-take k l (suc i) 0 h, getD-take k l i 0 (omega arith)) e) in
     rw (r, and-false (leb k most))
 
-crossed : (c a b x y : Bool) → ((c && (a && b)) && (x && y)) ≡ (c && ((a && x) && (b && y)))
-crossed false a b x y = refl
-crossed true false b x y = refl
-crossed true true false false y = refl
-crossed true true false true y = refl
-crossed true true true x y = refl
+crossed : (a b x y : Bool) → ((a && b) && (x && y)) ≡ ((a && x) && (b && y))
+crossed false b x y = refl
+crossed true false false y = refl
+crossed true false true y = refl
+crossed true true x y = refl
 
--- After i turns the flag says whether there are few enough, and whether the first i of them are good.
-abbrev pub Sound : List ℕ → ℕ → Bool → ℕ → Type 0
-Sound days count ok i = (i ≤ 64) × (ok ≡ (leb count most && (rising (take i (take count days)) && all inTime (take i (take count days)))))
+-- After i turns the flag says whether the first i days are good.
+abbrev pub Sound : List ℕ → Bool → ℕ → Type 0
+Sound days ok i = ok ≡ (rising (take i days) && all inTime (take i days))
 
-before-take : (l : List ℕ) (k i : ℕ) → i < k → getD (0 ∷ take k l) i 0 ≡ getD (0 ∷ l) i 0
-before-take l k zero h = refl
-before-take l k (suc i) h = getD-take k l i 0 (omega arith)
-
-pub sound-none : (days : List ℕ) (count : ℕ) → Sound days count (leb count most) 0
+pub sound-none : (days : List ℕ) → Sound days true 0
 unfolding rising
-sound-none days count = (omega arith, sym (and-true _))
+sound-none days = refl
 
-module _ (days : List ℕ) (count : ℕ) (n : length days ≡ 64) (ok : Bool) (i : ℕ) (t : Sound days count ok i) where
-  pub sound-more : i < 64 → i < count → (x : Bool) (before day : ℕ) → before ≡ getD (0 ∷ days) i 0 → day ≡ getD days i 0 → x ≡ Follows before day i → Sound days count (ok && x) (i + 1)
-  unfolding rises
-  sound-more h k x before day b d e =
-      let l = take count days in
-      let m : i < length l = rw (length-take count days) (omega (arith, n)) in
-      let g = getD-take count days i 0 k in
-      let r : (rising (take i l) && (eqb i 0 || ltb before day)) ≡ rising (take (suc i) l) = rw (b, d) (rw (g, before-take days count i k) at (rising-more l i m)) in
-      let a : (all inTime (take i l) && inTime day) ≡ all inTime (take (suc i) l) = rw d (rw g at (all-more inTime l i 0 m)) in
-      (omega arith, rw (t .1, e, add-one, ← r, ← a) (crossed (leb count most) (rising (take i l)) (all inTime (take i l)) (eqb i 0 || ltb before day) (inTime day)))
+pub sound-more : (days : List ℕ) (ok : Bool) (i : ℕ) → Sound days ok i → i < length days → (x : Bool) (before day : ℕ) → before ≡ getD (0 ∷ days) i 0 → day ≡ getD days i 0 → x ≡ Follows before day i
+    → Sound days (ok && x) (i + 1)
+unfolding rises
+sound-more days ok i t h x before day b d e =
+    let r : (rising (take i days) && (eqb i 0 || ltb before day)) ≡ rising (take (suc i) days) = rw (b, d) (rising-more days i h) in
+    let a : (all inTime (take i days) && inTime day) ≡ all inTime (take (suc i) days) = rw d (all-more inTime days i 0 h) in
+    rw (t, e, add-one, ← r, ← a) (crossed (rising (take i days)) (all inTime (take i days)) (eqb i 0 || ltb before day) (inTime day))
 
-  pub sound-past : i < 64 → count ≤ i → Sound days count ok (i + 1)
-  sound-past h k =
-      let l = take count days in
-      let m : length l ≤ i = rw (length-take count days) (omega arith) in
-      (omega arith, t .1 ∙ rw (take-all i l m, take-all (i + 1) l (omega (arith, m))))
-
-  pub sound-all : 64 ≤ i → ok ≡ soundDays count days
-  sound-all h =
-      let l = take count days in
-      let m : length l ≤ i = rw (length-take count days) (omega (arith, n)) in
-      t .1 ∙ rw (take-all i l m) (sym (and-assoc (leb count most) (rising l) (all inTime l)))
+pub sound-all : (days : List ℕ) (ok : Bool) (i : ℕ) → Sound days ok i → (count : ℕ) → i ≡ count → count ≤ 64 → ok ≡ soundDays count days
+sound-all days ok i t count e h = t ∙ rw (e, le-leb _ _ h)
 
 -- ---- what a book keeps
 

@@ -29,13 +29,14 @@ fn follows(before: u32, day: u32, i: usize) -> bool
 pub fn sound_days(days: [u32; 64], count: u32) -> bool
     ensures { λ r. ⌜ r ≡ soundDays count days ⌝ }
 {
-    let mut ok = count <= 64;
+    if count > 64 {
+        return false;
+    }
+    let mut ok = true;
     let mut before = 0;
-    for i in 0..64 {
+    for i in 0..count as usize {
         let day = days[i];
-        if (i as u32) < count {
-            ok = ok & follows(before, day, i);
-        }
+        ok = ok & follows(before, day, i);
         before = day;
     }
     ok
