@@ -121,6 +121,7 @@ struct closing {
 static struct closing closings[] = {
     {"08, no list twice", 8, 1455, 3, false, {0}},
     {"08 with 64 dates", 8, 1455, 3, true, {0}},
+    {"07, no list twice", 7, 2955, 51, false, {0}},
     {"07 with 64 dates", 7, 2955, 51, true, {0}},
 };
 static struct finaruvom_book without, with;
@@ -162,7 +163,7 @@ static int by_value(const void *a, const void *b) {
 }
 
 // What the dates add, in nanoseconds. A closing takes a millisecond, and the machine's noise is more than what is looked for: of many pairs, in which each goes
-// first in turn, the times are compared that one in twenty stays below. The row of no list twice shows what is left of the noise.
+// first in turn, the times are compared that one in twenty stays below. A row of no list twice shows what is left of the noise.
 static double added(apply *f, const struct closing *closing, int turns, struct finaruvom_book left[2], struct finaruvom_answer answers[2]) {
     static double times[2][PAIRS];
     for (int pair = 0; pair < PAIRS; pair++)
