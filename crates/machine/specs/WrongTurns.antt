@@ -126,8 +126,8 @@ module _ (check : List ℕ → List ℕ → List ℕ → Verdict) (hash : List �
 
   pub record WrongTurns : Type 0 where
     pub unsound : (b : Book) → sound b ≡ false → Unsound b
-    -- A book of another layout is unsound, and so is one whose default, fee or dates are out of range. Behind the first count of days anything
-    -- may stand, and the deadline of a book without a list does not look at them.
+    -- A book of another layout is unsound, and so is one whose default, fee or dates are out of range. The deadlines
+    -- of a book without a list do not look at its days.
     pub other-layout : (b : Book) (n : ℕ) → b .mark ≡ markOf n → (n ≡ layout → ⊥) → Unsound b
     pub short-default : (b : Book) → b .setup .delay < 3600 → Unsound b
     pub long-default : (b : Book) → 2592000 < b .setup .delay → Unsound b
