@@ -34,7 +34,7 @@ extern "C" {
 
 // The version that this header belongs to, and the number of the book's layout, which the mark of every book carries.
 #define FINARUVOM_VERSION_MAJOR 0
-#define FINARUVOM_VERSION_MINOR 17
+#define FINARUVOM_VERSION_MINOR 18
 #define FINARUVOM_VERSION_PATCH 0
 #define FINARUVOM_LAYOUT 6
 

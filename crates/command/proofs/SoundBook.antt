@@ -1,4 +1,4 @@
--- What a sound book tells of each channel, and the test of its channels one by one.
+-- What a sound book tells of each channel, and the test of a book in parts.
 use mathlib.Core.Path.{_≡_, refl, sym, ap, _∙_}
 use mathlib.Core.Bool.{Bool, true, _&&_, and-true, and-assoc}
 use Prim.Native.Nat.{ℕ, _+_, _≤_, _<_}
@@ -15,6 +15,11 @@ use Rattle.machine.proofs.Laws.{header, sound-parts}
 pub sound-at : (b : Book) (n : ℕ) → sound b ≡ true → soundChannel (channel b n) ≡ true
 unfolding soundChannel
 sound-at b n e = all-at soundChannel (b .channels) n noChannel refl ((sound-parts b e) .1)
+
+-- The test in two parts.
+pub in-parts : (b : Book) {x y : Bool} → x ≡ header b → y ≡ all soundChannel (b .channels) → (x && y) ≡ sound b
+unfolding sound
+in-parts b p q = rw (p, q)
 
 -- ---- the test of the channels one by one
 

@@ -3,4 +3,4 @@ use Rattle.machine.specs.Book.{layout}
 use Rattle.finaruvom.specs.declared.Version.{Version}
 
 abbrev pub released : Version
-released = record { major = 0; minor = 17; patch = 0; layout = layout }
+released = record { major = 0; minor = 18; patch = 0; layout = layout }

@@ -42,7 +42,7 @@ pub extern "C" fn finaruvom_version() -> Version
 {
     Version {
         major: 0,
-        minor: 17,
+        minor: 18,
         patch: 0,
         layout: LAYOUT,
     }

@@ -3,6 +3,7 @@ mod readings;
 mod soundness;
 mod sums;
 
+pub use readings::held_of;
 pub use readings::read_channel;
 pub use readings::unread;
 pub use soundness::delay_fits;

@@ -11,7 +11,7 @@ ghost use lib.ListN.{replicate};
 ghost use Rattle.machine.specs.Book.{cents, seconds, held, soundChannel, noReading, readChannel};
 
 // What the channel holds, by its status.
-fn held_of(ch: Channel) -> Cents
+pub fn held_of(ch: Channel) -> Cents
     requires { ⌜ soundChannel ch ≡ true ⌝ }
     ensures { λ r. ⌜ r ≡ cents (held ch) ⌝ }
 {

@@ -1,65 +1,88 @@
 -- What due says, channel by channel.
-use mathlib.Core.Path.{_≡_, refl, subst}
+use mathlib.Core.Path.{_≡_, refl, ap, subst}
 use mathlib.Core.Bool.{Bool, true, false, cond, not, _&&_, _||_}
 use mathlib.Core.List.{List, [], _∷_}
 use Prim.Native.Nat.{ℕ, zero, suc, _+_, _≤_, _<_}
 use native.Mathlib.Omega.{arith}
 use lib.ListN.{getD}
-use lib.Dec.{leb}
-use borrow.Author.Tests.{leb-true, leb-false}
-use Rattle.machine.specs.Book.{sound, closing, noChannel}
-use Rattle.machine.specs.Due.{sooner, soonest, number, none, due, FirstDue, DueMeans}
+use lib.Dec.{eqb, ltb, leb}
+use borrow.Author.Tests.{ltb-true, ltb-false, leb-true, leb-false, eqb-true, eq-eqb}
+use Rattle.machine.specs.Book.{cents, held, sound, closing, noChannel}
+use Rattle.machine.specs.Due.{Due, number, none, precedes, sooner, soonest, due, FirstDue, DueMeans}
 use Rattle.machine.specs.declared.state.Book.{Book}
 use Rattle.machine.specs.declared.state.Channel.{Channel}
 use Rattle.machine.specs.declared.answers.Soonest.{Soonest}
-use Rattle.wire.proofs.Laws.{and-both, clash}
+use Rattle.wire.proofs.Laws.{and-both, clash, or-neither}
 
 abbrev at : List Channel → ℕ → Channel
 at l i = getD l i noChannel
+
+-- What it says of a deadline and a sum that one comes first, and that it does not.
+ahead : (d e h g : ℕ) → (ltb d e || (eqb d e && leb g h)) ≡ true → (d ≤ e) × (e ≡ d → g ≤ h)
+ahead d e h g z = go (ltb d e) refl z
+  where
+    go : (x : Bool) → ltb d e ≡ x → (x || (eqb d e && leb g h)) ≡ true → (d ≤ e) × (e ≡ d → g ≤ h)
+    go true p z = let l = ltb-true d e p in (omega (arith, l), λ q. absurd (omega (arith, l, q)))
+    go false p z = let q = and-both (eqb d e) (leb g h) z in (omega (arith, eqb-true d e (q .0)), λ _. leb-true g h (q .1))
+
+behind : (d e h g : ℕ) → (ltb d e || (eqb d e && leb g h)) ≡ false → (e ≤ d) × (d ≡ e → h < g)
+behind d e h g z = let p = or-neither (ltb d e) (eqb d e && leb g h) z in (ltb-false d e (p .0), λ q. leb-false g h (rw (eq-eqb d e q) at p .1))
 
 -- The soonest of the channels l, whose first has number k, is the one at place i.
 record First (k : ℕ) (l : List Channel) (s : Soonest) (i : ℕ) : Type 0 where
   numbered : s .number ≡ k + i
   closes : closing (at l i) ≡ true
   dated : s .deadline .0 ≡ (at l i) .deadline .0
+  holds : s .held .0 ≡ held (at l i)
   least : (j : ℕ) → closing (at l j) ≡ true → s .deadline .0 ≤ (at l j) .deadline .0
-  lower : (j : ℕ) → closing (at l j) ≡ true → j < i → s .deadline .0 < (at l j) .deadline .0
+  larger : (j : ℕ) → closing (at l j) ≡ true → (at l j) .deadline .0 ≡ s .deadline .0 → held (at l j) ≤ s .held .0
+  lower : (j : ℕ) → closing (at l j) ≡ true → j < i → (at l j) .deadline .0 ≡ s .deadline .0 → held (at l j) < s .held .0
 
 -- Either it is there, or no channel is closing.
 record Told (k : ℕ) (l : List Channel) (s : Soonest) : Type 0 where
   some : s .some ≡ true → (i : ℕ) × First k l s i
   none : s .some ≡ false → (j : ℕ) → closing (at l j) ≡ false
 
+abbrev this : ℕ → Channel → Soonest
+this k ch = record { some = true; number = k; deadline = ch .deadline; held = cents (held ch) }
+
 -- Channel k before the others.
 module _ (k : ℕ) (ch : Channel) (l : List Channel) (s : Soonest) (t : Told (suc k) l s) where
-  took : closing ch ≡ true → (not (s .some) || leb (ch .deadline .0) (s .deadline .0)) ≡ true → Told k (ch ∷ l) (record { some = true; number = k; deadline = ch .deadline })
+  took : closing ch ≡ true → (not (s .some) || precedes ch s) ≡ true → Told k (ch ∷ l) (this k ch)
   took c e = record {
-    some = λ _. (0, record { numbered = omega arith; closes = c; dated = refl; least = least; lower = λ j _ h. omega arith });
+    some = λ _. (0, record { numbered = omega arith; closes = c; dated = refl; holds = refl; least = λ j h. (all j h) .0; larger = λ j h. (all j h) .1; lower = λ j _ h. absurd (omega arith) });
     none = λ h. absurd (clash refl h);
   }
     where
-      rest : (x : Bool) → s .some ≡ x → (not x || leb (ch .deadline .0) (s .deadline .0)) ≡ true → (j : ℕ) → closing (at l j) ≡ true → ch .deadline .0 ≤ (at l j) .deadline .0
-      rest true z e j h = let f = (t .some z) .1 .least j h in omega (arith, leb-true (ch .deadline .0) (s .deadline .0) e)
+      rest : (x : Bool) → s .some ≡ x → (not x || precedes ch s) ≡ true → (j : ℕ) → closing (at l j) ≡ true
+          → (ch .deadline .0 ≤ (at l j) .deadline .0) × ((at l j) .deadline .0 ≡ ch .deadline .0 → held (at l j) ≤ held ch)
+      rest true z e j h =
+          let a = ahead (ch .deadline .0) (s .deadline .0) (held ch) (s .held .0) e in
+          let f = (t .some z) .1 in
+          let least = f .least j h in
+          (omega (arith, a .0, least), λ q. let w : s .deadline .0 ≡ ch .deadline .0 = omega (arith, a .0, least, q) in omega (arith, a .1 w, f .larger j h (omega (arith, q, w))))
       rest false z e j h = absurd (clash h (t .none z j))
 
-      least : (j : ℕ) → closing (at (ch ∷ l) j) ≡ true → ch .deadline .0 ≤ (at (ch ∷ l) j) .deadline .0
-      least zero h = omega arith
-      least (suc j) h = rest (s .some) refl e j h
+      all : (j : ℕ) → closing (at (ch ∷ l) j) ≡ true → (ch .deadline .0 ≤ (at (ch ∷ l) j) .deadline .0) × ((at (ch ∷ l) j) .deadline .0 ≡ ch .deadline .0 → held (at (ch ∷ l) j) ≤ held ch)
+      all zero h = (omega arith, λ _. omega arith)
+      all (suc j) h = rest (s .some) refl e j h
 
-  passes : (closing ch && (not (s .some) || leb (ch .deadline .0) (s .deadline .0))) ≡ false → Told k (ch ∷ l) s
+  passes : (closing ch && (not (s .some) || precedes ch s)) ≡ false → Told k (ch ∷ l) s
   passes e = record { some = some; none = none }
     where
-      late : (x : Bool) → closing ch ≡ true → (closing ch && (not x || leb (ch .deadline .0) (s .deadline .0))) ≡ false → (x ≡ true) × (s .deadline .0 < ch .deadline .0)
-      late true c e = (refl, leb-false _ _ (rw c at e))
+      late : (x : Bool) → closing ch ≡ true → (closing ch && (not x || precedes ch s)) ≡ false
+          → (x ≡ true) × (s .deadline .0 ≤ ch .deadline .0) × (ch .deadline .0 ≡ s .deadline .0 → held ch < s .held .0)
+      late true c e = let p = behind (ch .deadline .0) (s .deadline .0) (held ch) (s .held .0) (rw c at e) in (refl, p .0, p .1)
       late false c e = absurd (clash refl (rw c at e))
 
       some : s .some ≡ true → (i : ℕ) × First k (ch ∷ l) s i
       some z =
           let i = (t .some z) .0 in
           let f = (t .some z) .1 in
-          let least : (j : ℕ) → closing (at (ch ∷ l) j) ≡ true → s .deadline .0 ≤ (at (ch ∷ l) j) .deadline .0 = elim [ zero ↦ λ h. omega (arith, (late (s .some) h e) .1) | suc j ↦ λ h. f .least j h ] in
-          let lower : (j : ℕ) → closing (at (ch ∷ l) j) ≡ true → j < suc i → s .deadline .0 < (at (ch ∷ l) j) .deadline .0 = elim [ zero ↦ λ h _. (late (s .some) h e) .1 | suc j ↦ λ h m. f .lower j h (omega arith) ] in
-          (suc i, record { numbered = omega (arith, f .numbered); closes = f .closes; dated = f .dated; least = least; lower = lower })
+          let least : (j : ℕ) → closing (at (ch ∷ l) j) ≡ true → s .deadline .0 ≤ (at (ch ∷ l) j) .deadline .0 = elim [ zero ↦ λ h. (late (s .some) h e) .1 | suc j ↦ λ h. f .least j h ] in
+          let larger : (j : ℕ) → closing (at (ch ∷ l) j) ≡ true → (at (ch ∷ l) j) .deadline .0 ≡ s .deadline .0 → held (at (ch ∷ l) j) ≤ s .held .0 = elim [ zero ↦ λ h q. let w = (late (s .some) h e) .2 q in omega (arith, w) | suc j ↦ λ h. f .larger j h ] in
+          let lower : (j : ℕ) → closing (at (ch ∷ l) j) ≡ true → j < suc i → (at (ch ∷ l) j) .deadline .0 ≡ s .deadline .0 → held (at (ch ∷ l) j) < s .held .0 = elim [ zero ↦ λ h _. (late (s .some) h e) .2 | suc j ↦ λ h m. f .lower j h (omega arith) ] in
+          (suc i, record { numbered = omega (arith, f .numbered); closes = f .closes; dated = f .dated; holds = f .holds; least = least; larger = larger; lower = lower })
 
       first : (x : Bool) → closing ch ≡ x → s .some ≡ false → closing ch ≡ false
       first true c z = absurd (clash ((late (s .some) c e) .0) z)
@@ -71,10 +94,10 @@ module _ (k : ℕ) (ch : Channel) (l : List Channel) (s : Soonest) (t : Told (su
 
 told-more : (k : ℕ) (ch : Channel) (l : List Channel) (s : Soonest) → Told (suc k) l s → Told k (ch ∷ l) (sooner k ch s)
 unfolding sooner
-told-more k ch l s t = go (closing ch && (not (s .some) || leb (ch .deadline .0) (s .deadline .0))) refl
+told-more k ch l s t = go (closing ch && (not (s .some) || precedes ch s)) refl
   where
-    go : (x : Bool) → (closing ch && (not (s .some) || leb (ch .deadline .0) (s .deadline .0))) ≡ x → Told k (ch ∷ l) (cond x (record { some = true; number = k; deadline = ch .deadline }) s)
-    go true z = let p = and-both (closing ch) (not (s .some) || leb (ch .deadline .0) (s .deadline .0)) z in took k ch l s t (p .0) (p .1)
+    go : (x : Bool) → (closing ch && (not (s .some) || precedes ch s)) ≡ x → Told k (ch ∷ l) (cond x (this k ch) s)
+    go true z = let p = and-both (closing ch) (not (s .some) || precedes ch s) z in took k ch l s t (p .0) (p .1)
     go false z = passes k ch l s t z
 
 told : (l : List Channel) (k : ℕ) → Told k l (soonest k l)
@@ -95,7 +118,16 @@ due-means b = record { named = λ n e. named (sound b) refl ((soonest 0 (b .chan
         let i = (told (b .channels) 0 .some q) .0 in
         let w : s .number ≡ n = cc in
         let v : i ≡ n = omega (arith, f .numbered) in
-        subst (FirstDue b) v (record { steady = p; closes = f .closes; least = λ m h. omega (arith, f .least m h, f .dated); lower = λ m h j. omega (arith, f .lower m h j, f .dated) })
+        subst
+        (FirstDue b)
+        v
+        (record {
+          steady = p;
+          closes = f .closes;
+          least = λ m h. omega (arith, f .least m h, f .dated);
+          larger = λ m h e. let w = f .larger m h (omega (arith, e, f .dated)) in omega (arith, w, f .holds);
+          lower = λ m h j e. let w = f .lower m h j (omega (arith, e, f .dated)) in omega (arith, w, f .holds);
+        })
     named true p false q n e = let z : _≡_ {A = ℕ} 0 1 = cc in absurd (omega (arith, z))
     named false p y q n e = let z : _≡_ {A = ℕ} 0 1 = cc in absurd (omega (arith, z))
 
@@ -103,3 +135,21 @@ due-means b = record { named = λ n e. named (sound b) refl ((soonest 0 (b .chan
     empty true p true q e = let z : _≡_ {A = ℕ} 0 1 = cc in absurd (omega (arith, z))
     empty true p false q e = q
     empty false p y q e = absurd (clash p refl)
+
+-- And no other channel is such: of two, the one with the lower number would hold less, and no less.
+alone : (b : Book) (n m : ℕ) → FirstDue b n → FirstDue b m → m < n → ⊥
+alone b n m f g l =
+    let e = f .least m (g .closes) in
+    let h = g .least n (f .closes) in
+    let less = f .lower m (g .closes) l (omega (arith, e, h)) in
+    let more = g .larger n (f .closes) (omega (arith, e, h)) in
+    omega (arith, less, more)
+
+pub due-only : (b : Book) (n : ℕ) → FirstDue b n → due b ≡ number n
+due-only b n f = go (due b) refl
+  where
+    go : (x : Due) → due b ≡ x → x ≡ number n
+    go none e = absurd (clash (f .closes) (due-means b .unnamed e (f .steady) n))
+    go (number m) e =
+        let g = due-means b .named m e in
+        ap number (omega (arith, alone b n m f g, alone b m n g f))

@@ -10,12 +10,13 @@ use Rattle.lms.specs.OneTime.{deficit}
 use Rattle.lms.proofs.StepLaw.{stepLaw}
 use Rattle.calendar.specs.Calendar.{leap, monthDays, before, since, dayNumber}
 use Rattle.calendar.specs.Days.{weekend, listed, above, rising, skip, past, nextOpen, banked}
-use Rattle.machine.specs.Book.{total, held, readChannel}
+use Rattle.machine.specs.Book.{total, held, soundChannel, sound, readChannel}
 use Rattle.machine.specs.Checks.{ask}
 use Rattle.machine.specs.Rules.{answerableAt, establish, fundCustomer, fundMerchant, reclaim, mutualClose, customerClose, merchantClose, dispute, settle}
 use Rattle.machine.specs.Machine.{answer, concluded, ruling}
 use Rattle.machine.specs.Opening.{fresh, opening}
-use Rattle.machine.specs.Figures.{Figures, DayFigures, OpeningFigures, FeeFigures}
+use Rattle.machine.specs.Due.{sooner, soonest, due}
+use Rattle.machine.specs.Figures.{Figures, DayFigures, DueFigures, OpeningFigures, FeeFigures}
 use Rattle.machine.specs.declared.state.Leaves.{Leaves}
 use Rattle.machine.specs.declared.state.Book.{Book}
 use Rattle.wire.proofs.Laws.{same-refl}
@@ -70,6 +71,20 @@ day-figures key other lock id d x v w q default fee used = record {
   disputes-at-345600 = refl;
   settles-at-345599 = refl;
   settles-at-345600 = refl;
+}
+
+due-figures : (key other lock id : List ℕ) (d x v w q default fee : ℕ) (used : Leaves) → DueFigures key other lock id d x v w q default fee used
+unfolding total held soundChannel sound rising sooner soonest due fresh
+due-figures key other lock id d x v w q default fee used = record {
+  larger = refl;
+  equal = refl;
+  earlier = refl;
+  later = refl;
+  nothing = refl;
+  both-nothing = refl;
+  total = refl;
+  whole = refl;
+  still-open = refl;
 }
 
 opening-figures : (lent : Book) (id : List ℕ) → OpeningFigures lent id

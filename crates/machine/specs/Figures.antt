@@ -1,17 +1,19 @@
 -- Document 01, "Figures at the edges": the starred rows, on the rules with verdicts given. Document 02, No. 2: rows of an account that only
--- the merchant funds; No. 5: rows of disputes by their leaf; No. 7: fees; No. 8: moved deadlines and lists of dates.
+-- the merchant funds; No. 5: rows of disputes by their leaf; No. 7: fees; No. 8: moved deadlines and lists of dates;
+-- No. 9: what is due first.
 use mathlib.Core.Path.{_≡_}
 use mathlib.Core.Bool.{Bool, true, false}
 use mathlib.Core.List.{List, [], _∷_}
 use Prim.Native.Nat.{ℕ, _+_, _-_, _^_, _≤_}
 use lib.ListN.{length, take, replicate}
 use Rattle.lms.specs.OneTime.{stepCount}
-use Rattle.machine.specs.Book.{cents, seconds, party, remembered, readChannel}
+use Rattle.machine.specs.Book.{cents, seconds, party, remembered, withChannel, readChannel}
 use Rattle.machine.specs.Checks.{Verdict}
-use Rattle.machine.specs.Opening.{under, setupOf, fresh, opening}
+use Rattle.machine.specs.Opening.{under, plainly, setupOf, fresh, opening}
 use Rattle.machine.specs.Fee.{feeOf}
 use Rattle.machine.specs.Rules.{Plan, keyed, establish, fundCustomer, fundMerchant, reclaim, mutualClose, customerClose, merchantClose, dispute, settle}
 use Rattle.machine.specs.Machine.{ruling}
+use Rattle.machine.specs.Due.{number, due}
 use Rattle.machine.specs.declared.state.Leaves.{Leaves}
 use Rattle.machine.specs.declared.state.Channel.{Channel}
 use Rattle.machine.specs.declared.state.Context.{Context}
@@ -158,6 +160,22 @@ module _ (key other lock id : List ℕ) (d x v w q default fee : ℕ) (used : Le
     pub disputes-at-345600 : by (dispute (dated [] 345600) lock (good v 8)) (customerLeft [] 169200) ≡ row 9 0 0 5 700 345600
     pub settles-at-345599 : by (settle (dated [] 345599)) (customerLeft [] 169200) ≡ row 9 0 0 5 700 345600
     pub settles-at-345600 : by (settle (dated [] 345600)) (customerLeft [] 169200) ≡ row 0 700 0 6 0 0
+
+  -- A book opened plainly in which channels 3 and 5 are these.
+  abbrev pub beside : Channel → Channel → Book
+  beside third fifth = withChannel (withChannel (fresh (plainly id)) 3 third) 5 fifth
+
+  -- The earlier deadline, then the larger sum, then the lower number. A merchant's closing holds T, whatever is kept in it; a customer's its kept c.
+  pub record DueFigures : Type 0 where
+    pub larger : due (beside (example 5 4600 700) (example 5 4600 900)) ≡ number 5
+    pub equal : due (beside (example 5 4600 900) (example 5 4600 900)) ≡ number 3
+    pub earlier : due (beside (example 5 4599 700) (example 5 4600 900)) ≡ number 3
+    pub later : due (beside (example 5 4600 900) (example 5 4599 700)) ≡ number 5
+    pub nothing : due (beside (example 5 4600 0) (example 5 4600 1)) ≡ number 5
+    pub both-nothing : due (beside (example 5 4600 0) (example 5 4600 0)) ≡ number 3
+    pub total : due (beside (example 5 4600 999) (example 4 4600 x)) ≡ number 5
+    pub whole : due (beside (example 5 4600 1000) (example 4 4600 x)) ≡ number 3
+    pub still-open : due (beside (example 5 4600 0) (example 3 d x)) ≡ number 3
 
 -- What an opening answers that is given a list: the fee is told before a date, and a date before the order.
 pub record OpeningFigures (lent : Book) (id : List ℕ) : Type 0 where

@@ -56,11 +56,12 @@ pub struct Reading {
     pub lock: [u8; 32],
 }
 
-// A closing channel and its deadline, if there is some.
+// A closing channel, its deadline and what it holds, if there is some.
 pub struct Soonest {
     pub some: bool,
     pub number: u8,
     pub deadline: Seconds,
+    pub held: Cents,
 }
 
 // The channel that is due next.

@@ -1,5 +1,5 @@
 -- From the last channel to the first: after the turn for channel i, the soonest of the channels from i on.
-use mathlib.Core.Path.{_≡_, _∙_}
+use mathlib.Core.Path.{_≡_, refl, _∙_}
 use Prim.Native.Nat.{ℕ, zero, suc, _-_, _≤_, _<_}
 use native.Mathlib.Omega.{arith}
 use native.Mathlib.Numerals.{unary-clauses}
@@ -9,13 +9,14 @@ use lib.ListN.{length, drop, getD, drop-of-length-le}
 use lib.Seq.{drop-cons}
 use borrow.Author.Needs.{needs}
 use Rattle.machine.specs.Due.{sooner, soonest}
-use Rattle.machine.specs.Book.{noChannel, seconds}
+use Rattle.machine.specs.Book.{soundChannel, noChannel, cents, seconds}
 use Rattle.machine.specs.declared.state.Channel.{Channel}
 use Rattle.wire.proofs.Laws.{length-of-map}
+use Rattle.wire.proofs.Tested.{all-at}
 use Rattle.arbiter.proofs.next.soonest_of.Statement.{statement}
 use Rattle.arbiter.proofs.next.soonest_of.Tie as tie
 
-soonest-end : (l : List Channel) (n : ℕ) → length l ≤ n → record { some = false; number = 0; deadline = seconds 0 } ≡ soonest n (drop n l)
+soonest-end : (l : List Channel) (n : ℕ) → length l ≤ n → record { some = false; number = 0; deadline = seconds 0; held = cents 0 } ≡ soonest n (drop n l)
 unfolding soonest
 soonest-end l n h = rw (drop-of-length-le l h)
 
@@ -36,7 +37,8 @@ loop-holds c =
     (h, omega arith, soonest-end (c .args .t1 .channels) 64 (omega arith))
 
 sooner-of-requires : tie.Need-sooner-of-requires Inv-loop μ-loop
-sooner-of-requires c κs = tt
+unfolding soundChannel
+sooner-of-requires c κs = let b = c .before .before .before in all-at soundChannel (b .args .t1 .channels) _ noChannel refl (b .pre)
 
 loop-again : tie.Need-loop-again Inv-loop μ-loop
 loop-again c =

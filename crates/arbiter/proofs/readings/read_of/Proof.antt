@@ -2,15 +2,14 @@ use mathlib.Core.Path.{_≡_, sym, _∙_}
 use mathlib.Core.Bool.{true, _&&_}
 use borrow.Author.Tests.{lt-ltb, le-ltb, not-true, not-false}
 use Rattle.machine.specs.Book.{sound, reading}
-use Rattle.command.proofs.SoundBook.{sound-at}
+use Rattle.command.proofs.SoundBook.{sound-at, in-parts}
 use borrow.Author.Needs.{needs}
 use Rattle.arbiter.proofs.readings.read_of.Statement.{statement}
 use Rattle.arbiter.proofs.readings.read_of.Tie as tie
 
 -- Soundness is tested in two parts.
 tested : (k : tie.After-sound-channels) → (k .before .sound-header .result && k .sound-channels .result) ≡ sound (k .before .before .before .before .args .t1)
-unfolding sound
-tested k = rw (k .before .sound-header .ensures, k .sound-channels .ensures)
+tested k = in-parts _ (k .before .sound-header .ensures) (k .sound-channels .ensures)
 
 steady : (k : tie.Else1) → sound (k .before .before .before .before .before .args .t1) ≡ true
 steady k = sym (tested (k .before)) ∙ not-false _ (k .if1 .left)
