@@ -5,7 +5,6 @@ use mathlib.Core.List.{List, [], _∷_}
 use Prim.Native.Nat.{ℕ, zero, suc, _+_, _≤_, _<_}
 use native.Mathlib.Omega.{arith}
 use lib.ListN.{getD}
-use lib.Dec.{eqb, ltb, leb}
 use borrow.Author.Tests.{ltb-true, ltb-false, leb-true, leb-false, eqb-true, eq-eqb}
 use Rattle.machine.specs.Book.{cents, held, sound, closing, noChannel}
 use Rattle.machine.specs.Due.{Due, number, none, precedes, sooner, soonest, due, FirstDue, DueMeans}
@@ -13,20 +12,22 @@ use Rattle.machine.specs.declared.state.Book.{Book}
 use Rattle.machine.specs.declared.state.Channel.{Channel}
 use Rattle.machine.specs.declared.answers.Soonest.{Soonest}
 use Rattle.wire.proofs.Laws.{and-both, clash, or-neither}
+use Rattle.machine.proofs.Laws.{and-other, or-either}
 
 abbrev at : List Channel → ℕ → Channel
 at l i = getD l i noChannel
 
--- What it says of a deadline and a sum that one comes first, and that it does not.
-ahead : (d e h g : ℕ) → (ltb d e || (eqb d e && leb g h)) ≡ true → (d ≤ e) × (e ≡ d → g ≤ h)
-ahead d e h g z = go (ltb d e) refl z
-  where
-    go : (x : Bool) → ltb d e ≡ x → (x || (eqb d e && leb g h)) ≡ true → (d ≤ e) × (e ≡ d → g ≤ h)
-    go true p z = let l = ltb-true d e p in (omega (arith, l), λ q. absurd (omega (arith, l, q)))
-    go false p z = let q = and-both (eqb d e) (leb g h) z in (omega (arith, eqb-true d e (q .0)), λ _. leb-true g h (q .1))
+-- What it says that a channel comes before the soonest of others, and that it does not.
+module _ (ch : Channel) (s : Soonest) where
+  ahead : precedes ch s ≡ true → (ch .deadline .0 ≤ s .deadline .0) × (s .deadline .0 ≡ ch .deadline .0 → s .held .0 ≤ held ch)
+  ahead z =
+      or-either
+      z
+      (λ y. let l : ch .deadline .0 < s .deadline .0 = ltb-true _ _ y in (omega (arith, l), λ q. absurd (omega (arith, l, q))))
+      (λ y. let p = and-both _ _ y in let e : ch .deadline .0 ≡ s .deadline .0 = eqb-true _ _ (p .0) in (omega (arith, e), λ _. leb-true _ _ (p .1)))
 
-behind : (d e h g : ℕ) → (ltb d e || (eqb d e && leb g h)) ≡ false → (e ≤ d) × (d ≡ e → h < g)
-behind d e h g z = let p = or-neither (ltb d e) (eqb d e && leb g h) z in (ltb-false d e (p .0), λ q. leb-false g h (rw (eq-eqb d e q) at p .1))
+  behind : precedes ch s ≡ false → (s .deadline .0 ≤ ch .deadline .0) × (ch .deadline .0 ≡ s .deadline .0 → held ch < s .held .0)
+  behind z = let p = or-neither _ _ z in (ltb-false _ _ (p .0), λ q. leb-false _ _ (and-other (eq-eqb _ _ q) (p .1)))
 
 -- The soonest of the channels l, whose first has number k, is the one at place i.
 record First (k : ℕ) (l : List Channel) (s : Soonest) (i : ℕ) : Type 0 where
@@ -57,7 +58,7 @@ module _ (k : ℕ) (ch : Channel) (l : List Channel) (s : Soonest) (t : Told (su
       rest : (x : Bool) → s .some ≡ x → (not x || precedes ch s) ≡ true → (j : ℕ) → closing (at l j) ≡ true
           → (ch .deadline .0 ≤ (at l j) .deadline .0) × ((at l j) .deadline .0 ≡ ch .deadline .0 → held (at l j) ≤ held ch)
       rest true z e j h =
-          let a = ahead (ch .deadline .0) (s .deadline .0) (held ch) (s .held .0) e in
+          let a = ahead ch s e in
           let f = (t .some z) .1 in
           let least = f .least j h in
           (omega (arith, a .0, least), λ q. let w : s .deadline .0 ≡ ch .deadline .0 = omega (arith, a .0, least, q) in omega (arith, a .1 w, f .larger j h (omega (arith, q, w))))
@@ -72,7 +73,7 @@ module _ (k : ℕ) (ch : Channel) (l : List Channel) (s : Soonest) (t : Told (su
     where
       late : (x : Bool) → closing ch ≡ true → (closing ch && (not x || precedes ch s)) ≡ false
           → (x ≡ true) × (s .deadline .0 ≤ ch .deadline .0) × (ch .deadline .0 ≡ s .deadline .0 → held ch < s .held .0)
-      late true c e = let p = behind (ch .deadline .0) (s .deadline .0) (held ch) (s .held .0) (rw c at e) in (refl, p .0, p .1)
+      late true c e = let p = behind ch s (rw c at e) in (refl, p .0, p .1)
       late false c e = absurd (clash refl (rw c at e))
 
       some : s .some ≡ true → (i : ℕ) × First k (ch ∷ l) s i

@@ -1,6 +1,6 @@
 -- Laws of truth values, of what a sound book tells beside its channels, and of equal byte strings.
 use mathlib.Core.Path.{_≡_, refl}
-use mathlib.Core.Bool.{Bool, cond, true, false, false≢true, _&&_}
+use mathlib.Core.Bool.{Bool, cond, true, false, false≢true, _&&_, _||_}
 use mathlib.Core.List.{List, [], _∷_, map}
 use Prim.Native.Nat.{ℕ, _≤_}
 use lib.ListN.{length, take}
@@ -21,6 +21,13 @@ use Rattle.wire.proofs.Laws.{and-both}
 pub and-middle : (a b c : Bool) → b ≡ false → (a && b && c) ≡ false
 and-middle true b c h = rw h
 and-middle false b c h = refl
+
+pub and-other : {a b : Bool} → a ≡ true → (a && b) ≡ false → b ≡ false
+and-other p h = rw p at h
+
+pub or-either : {P : Type 0} {a b : Bool} → (a || b) ≡ true → (a ≡ true → P) → (b ≡ true → P) → P
+or-either {a = true} h f g = f refl
+or-either {a = false} h f g = g h
 
 -- What the test of a delay tells.
 pub in-range : (d : ℕ) → ranged d ≡ true → (shortest ≤ d) × (d ≤ longest)
