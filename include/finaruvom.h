@@ -346,7 +346,8 @@ FINARUVOM_CALL struct finaruvom_answer finaruvom_apply(struct finaruvom_book *bo
 // Duties: book not null, aligned, shared; stack FINARUVOM_STACK_READ.
 FINARUVOM_CALL struct finaruvom_reading finaruvom_read(const struct finaruvom_book *book, size_t n);
 
-// The channel in status 4 or 5 with the smallest deadline, the lower number where equal; none of an unsound book.
+// The channel in status 4 or 5 with the smallest deadline; of those with equal deadlines the one that holds most, as a reading says it, and only then the
+// one with the lowest number. None of an unsound book.
 // Duties: book not null, aligned, shared; stack FINARUVOM_STACK_DUE.
 FINARUVOM_CALL struct finaruvom_found finaruvom_due(const struct finaruvom_book *book);
 

@@ -293,7 +293,7 @@ static void disputes(void) {
     must(finaruvom_apply(&book, filed[DISPUTE].command, filed[DISPUTE].size).refusal == FINARUVOM_DEADLINE, "it is not refused at the deadline");
 }
 
-// Due goes by the moved deadline: another channel's is between the two, the same, or later.
+// Due goes by the moved deadline: another channel's is between the two, the same, with a cent held to more, or later.
 static void due_by_the_moved(void) {
     size_t n = filed[DIRECT].n, other = n == 0 ? 1 : n - 1;
     at = "due";
@@ -301,8 +301,7 @@ static void due_by_the_moved(void) {
     book.channels[other] = (struct finaruvom_channel){.merchant.deposit = 1, .delay = 3600, .status = FINARUVOM_MERCHANT_CLOSING};
     for (uint64_t deadline = 345599; deadline <= 345601; deadline++) {
         book.channels[other].deadline = deadline;
-        bool first = deadline < 345600 || (deadline == 345600 && other < n);
-        must(finaruvom_due(&book).channel == (first ? other : n), "another channel is due than by the moved deadline");
+        must(finaruvom_due(&book).channel == (deadline < 345600 ? other : n), "another channel is due than by the moved deadline");
     }
 }
 

@@ -1,5 +1,5 @@
-// What is due: due. Two closings at the edges of each rule, then books at random with many equal deadlines and sums, in which the channel that is due is settled
-// until none is. Of the closings the one with the smallest deadline is due, of these the one that holds most, and only then the one with the lowest number.
+// What is due: due. Two closings at the edges of each rule, then books at random with many equal deadlines and sums, in which the channel that is due is
+// settled until none is. Of the closings the one with the smallest deadline is due, of these the one that holds most, and only then that of the lowest number.
 #include "../include/finaruvom.h"
 #include <stdio.h>
 #include <stdlib.h>
@@ -128,16 +128,15 @@ static void lend(void) {
 
 // Settles what is due until none is: each closing is paid what it holds.
 static void settled(void) {
-    struct finaruvom_found found;
-    unsigned closings = 0, settles = 0;
+    unsigned left = 0;
     for (size_t n = 0; n < FINARUVOM_CHANNELS; n++)
-        closings += closing(&book.channels[n]);
-    for (; found = asked(), found.some; settles++) {
+        left += closing(&book.channels[n]);
+    for (struct finaruvom_found found; found = asked(), found.some; left--) {
+        must(left > 0, "a settled channel is still closing");
         uint64_t sum = held(&book.channels[found.channel]);
         struct finaruvom_answer answer = finaruvom_apply(&book, (const uint8_t[]){10, 0, found.channel}, 3);
-        must(answer.refusal == FINARUVOM_ACCEPTED && answer.customer + answer.merchant == sum, "the channel that is due is not settled with what it holds");
+        must(answer.refusal == FINARUVOM_ACCEPTED && answer.customer + answer.merchant == sum, "what is due is not settled with what it holds");
     }
-    must(settles == closings, "other channels were due than those that were closing");
 }
 
 int main(void) {
@@ -146,6 +145,6 @@ int main(void) {
     for (int i = 0; i < BOOKS; i++)
         lend(), settled();
     must(later > BOOKS && smaller > BOOKS && higher > BOOKS && both_sides > BOOKS, "some rule is hardly tried");
-    printf("due: %zu figures, %d books; %u closings behind by their deadline, %u by their sum, %u by their number\n", sizeof figures / sizeof figures[0], BOOKS, later,
-           smaller, higher);
+    printf("due: %zu figures, %d books; %u closings behind by their deadline, %u by their sum, %u by their number\n", sizeof figures / sizeof figures[0],
+           BOOKS, later, smaller, higher);
 }

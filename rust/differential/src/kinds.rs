@@ -2,6 +2,7 @@
 
 pub mod bank;
 pub mod days;
+pub mod due;
 pub mod fees;
 pub mod leaves;
 pub mod lists;

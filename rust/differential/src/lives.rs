@@ -78,6 +78,12 @@ impl Terms {
         self
     }
 
+    /// The same terms with these deposits, the customer's and the merchant's.
+    pub fn of_deposits(mut self, deposits: [u64; 2]) -> Terms {
+        self.common.numbers = deposits;
+        self
+    }
+
     /// The same terms with each side in the other's place.
     pub fn swapped(mut self) -> Terms {
         self.common.keys.swap(0, 1);

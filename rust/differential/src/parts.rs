@@ -4,6 +4,7 @@ mod bank;
 mod books;
 mod boundary;
 mod days;
+mod due;
 mod faults;
 mod fees;
 mod hashes;
@@ -46,6 +47,7 @@ pub const PARTS: &[Part] = &[
     part("accounts", accounts::case),
     part("fees", fees::case),
     part("days", days::case),
+    part("due", due::case),
     part("leaves", leaves::case),
     part("strings", strings::case),
     part("books", books::case),

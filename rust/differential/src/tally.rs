@@ -1,5 +1,5 @@
 //! What was compared, and which refusals came up.
-use crate::kinds::{bank, days, fees, leaves, lists, openings, signers, KINDS};
+use crate::kinds::{bank, days, due, fees, leaves, lists, openings, signers, KINDS};
 use oracle::{Answer, HIGHEST_RATE};
 use std::collections::{BTreeMap, BTreeSet};
 use std::fmt;
@@ -126,6 +126,7 @@ impl Tally {
             .chain(lists::names())
             .chain(fees::names())
             .chain(days::names())
+            .chain(due::names())
             .filter(|kind| !self.compared.contains_key(kind))
             .map(|kind| kind.to_string());
         let rates = (0..=HIGHEST_RATE)

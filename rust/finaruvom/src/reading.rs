@@ -76,14 +76,27 @@ impl Book {
         })
     }
 
-    /// Of the channels that are closing, the one with the smallest deadline, the lower number
-    /// where equal. None where no channel is closing, and of an unsound book.
+    /// Of the channels that are closing, the one with the smallest deadline; of equal deadlines
+    /// the one with the larger [`held`](Reading::held) sum, and only then the lower number. None
+    /// where no channel is closing, and of an unsound book.
     ///
     /// ```
-    /// use finaruvom::{Book, Refusal};
+    /// use finaruvom::{Book, Cents, Refusal, Seconds};
     ///
     /// let book = Book::open(&[7; 16])?;
     /// assert_eq!(book.due(), None);
+    ///
+    /// // Three merchants close, two of them with one deadline.
+    /// let mut raw = book.as_raw().clone();
+    /// for (n, held, deadline) in [(1, 1_000, 4_601), (3, 700, 4_600), (5, 900, 4_600)] {
+    ///     raw.channels[n].status = 4;
+    ///     raw.channels[n].delay = 3_600;
+    ///     raw.channels[n].merchant.deposit = Cents(held);
+    ///     raw.channels[n].deadline = Seconds(deadline);
+    /// }
+    /// let book = Book::from_raw(raw);
+    /// assert_eq!(book.read(5)?.held, Cents(900));
+    /// assert_eq!(book.due(), Some(5));
     /// # Ok::<(), Refusal>(())
     /// ```
     #[must_use]

@@ -1,4 +1,5 @@
 //! The figures of document 02 on a book.
 mod days;
+mod due;
 mod fees;
 mod parties;

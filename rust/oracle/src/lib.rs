@@ -1,5 +1,5 @@
-//! Document 01, document 02 No. 1, 2, 5, 7 and 8 where these say otherwise, and its No. 4 and 6, in
-//! plain Rust, written from the papers alone, to compare the library with.
+//! Document 01, document 02 No. 1, 2, 5 and 7 to 9 where these say otherwise, and its No. 4 and 6,
+//! in plain Rust, written from the papers alone, to compare the library with.
 
 pub mod bank;
 mod book;

@@ -1,5 +1,6 @@
 //! What can be read of a book: a channel, and which one is due.
 use crate::book::{Book, Channel};
+use std::cmp::Reverse;
 
 /// The reading of a channel.
 #[derive(Clone, Copy, Debug, Default, PartialEq, Eq)]
@@ -61,8 +62,8 @@ fn reading(channel: &Channel) -> Reading {
     }
 }
 
-/// Of the channels in status 4 or 5, the one with the smallest deadline, the lower number where
-/// equal.
+/// Of the channels in status 4 or 5, the one with the smallest deadline; by document 02 No. 9 the
+/// one with the larger held sum where equal, and only then the lower number.
 pub fn due(book: &Book) -> Option<u8> {
     if !book.sound() {
         return None;
@@ -71,6 +72,6 @@ pub fn due(book: &Book) -> Option<u8> {
         .zip(&book.channels)
         .filter(|(_, channel)| matches!(channel.status, 4 | 5));
     closing
-        .min_by_key(|(n, channel)| (channel.deadline, *n))
+        .min_by_key(|(n, channel)| (channel.deadline, Reverse(reading(channel).held), *n))
         .map(|(n, _)| n)
 }

@@ -6,7 +6,7 @@ use finaruvom::raw::{self, Found, Line, Ran};
 use finaruvom::Book;
 
 impl Pair {
-    /// Reads every channel, numbers behind the last one, and the due list.
+    /// Reads every channel, numbers behind the last one, and what is due.
     pub fn read(&self, tally: &mut Tally) -> Outcome {
         for n in (0..=66).chain([256, 65_535, 65_536, 1 << 32, usize::MAX]) {
             let oracle = oracle::read(&self.oracle, n);
@@ -20,6 +20,11 @@ impl Pair {
             )?;
             tally.compared("readings");
         }
+        self.due(tally).map(|_| ())
+    }
+
+    /// Asks both for the channel that is due, and gives it.
+    pub fn due(&self, tally: &mut Tally) -> Result<Option<u8>, String> {
         let due = oracle::due(&self.oracle);
         same("due", &self.library.due(), &due)?;
         let found = Found {
@@ -29,7 +34,8 @@ impl Pair {
         // SAFETY: the book is readable.
         let raw = unsafe { raw::finaruvom_due(self.library.as_raw()) };
         tally.compared(if found.some { "due" } else { "due none" });
-        same("found", &raw, &found)
+        same("found", &raw, &found)?;
+        Ok(due)
     }
 
     /// Runs a journal over the lines that stand there; gives how far it came.

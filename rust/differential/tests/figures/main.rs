@@ -4,6 +4,7 @@ mod credit;
 mod days;
 mod defaults;
 mod desk;
+mod due;
 mod edges;
 mod faults;
 mod fees;

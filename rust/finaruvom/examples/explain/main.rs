@@ -1,6 +1,7 @@
 //! `explain [--delay N] [--fee N] [--dates LIST] JOURNAL` tells a journal in words: for each
 //! command a line with what it is, its channel, whether it was accepted, what it paid and, of a
-//! closing, its deadline; at last the channel that is due next.
+//! closing, its deadline; at last the channel that is due next, with what it holds: among equal
+//! deadlines the one with the larger sum is first.
 //!
 //! The journal is the id of a book, 16 bytes, and its commands one after the other. It does not say
 //! with what its book was opened: without options that is the plain opening. The list has dates as

@@ -104,13 +104,14 @@ fn deadline(book: &Book, n: u16) -> Result<String, Refusal> {
     Ok(format!("deadline {}", Moment(deadline)))
 }
 
-/// The channel that is due next, if there is one.
+/// The channel that is due next, with the sum and the deadline by which it is, if there is one.
 fn due(book: &Book) -> Result<String, Refusal> {
-    match book.due() {
-        Some(n) => Ok(format!(
-            "due next: channel {n}, {}",
-            deadline(book, n.into())?
-        )),
-        None => Ok("no channel is due".to_string()),
-    }
+    let Some(n) = book.due() else {
+        return Ok("no channel is due".to_string());
+    };
+    let held = book.read(usize::from(n))?.held;
+    let deadline = deadline(book, n.into())?;
+    Ok(format!(
+        "due next: channel {n}, {held} cents held, {deadline}"
+    ))
 }

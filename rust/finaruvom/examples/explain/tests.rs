@@ -2,12 +2,16 @@
 use crate::moment::Moment;
 use crate::options::Options;
 use crate::{run, story};
-use finaruvom::command::{SetClock, Settle};
-use finaruvom::Seconds;
+use finaruvom::command::{Establish, FundMerchant, MerchantClose, SetClock, Settle};
+use finaruvom::{Cents, Seconds};
+use oracle::Signer;
 use std::ffi::OsString;
 
 /// A week of November 2026, which `examples/README.md` tells.
 const WEEK: &str = concat!(env!("CARGO_MANIFEST_DIR"), "/../../examples/week.journal");
+
+/// The id of the other journals.
+const ID: [u8; 16] = [7; 16];
 
 /// What is told, or said of what is wrong.
 fn explained(arguments: &[&str]) -> Result<String, String> {
@@ -25,7 +29,7 @@ fn week(options: &[&str]) -> Vec<String> {
 
 /// Tuesday, 3 November, is shut, and so is the Monday after. Four days from Tuesday on is Saturday,
 /// so the deadline of channel 1 is Tuesday of the next week. That of channel 2, Tuesday at five, is
-/// Wednesday's, and its settlings come too early.
+/// Wednesday's, and its settlings come too early: it is due next, with what its customer keeps.
 #[test]
 fn with_shut_days() {
     let options = [
@@ -93,7 +97,7 @@ fn moments() {
 /// What is told of these commands, and said at their end.
 fn told(commands: &[u8]) -> (String, Result<(), String>) {
     let options = Options::parse([OsString::from("-")].into_iter()).unwrap();
-    let journal = [&[7; 16], commands].concat();
+    let journal = [&ID, commands].concat();
     let mut out = Vec::new();
     let end = story::tell(&journal, &options, &mut out).map_err(|error| error.to_string());
     (String::from_utf8(out).unwrap(), end)
@@ -122,6 +126,35 @@ fn ends() {
         assert_eq!((&text, end), (&lines, Err(said)));
     }
     assert_eq!(told(&[]), ("no channel is due\n".to_string(), Ok(())));
+}
+
+/// A channel that its merchant alone funds, and closes.
+fn closing(channel: u16, cents: u64) -> Vec<u8> {
+    let merchant = Signer::with_leaves([2; 32], [2; 16], &[0]);
+    let establish = Establish {
+        channel,
+        customer_key: Signer::with_leaves([1; 32], [1; 16], &[]).key(),
+        merchant_key: merchant.key(),
+        customer: Cents(0),
+        merchant: Cents(cents),
+        delay: 3_600,
+    };
+    let amount = Cents(cents);
+    let fund = FundMerchant { channel, amount }.command();
+    let close = MerchantClose { channel };
+    let signature = merchant.sign(0, &[3; 32], &close.message(&ID));
+    [&establish.command()[..], &fund, &close.command(&signature)].concat()
+}
+
+/// Of two closings with one deadline that with the larger sum is due next.
+#[test]
+fn equal_deadlines() {
+    for (sums, next) in [([700, 900], "1, 900"), ([900, 900], "0, 900")] {
+        let (text, end) = told(&[closing(0, sums[0]), closing(1, sums[1])].concat());
+        let deadline = "deadline Thursday 1970-01-01 01:00:00";
+        let last = format!("due next: channel {next} cents held, {deadline}");
+        assert_eq!((text.lines().last(), end), (Some(&last[..]), Ok(())));
+    }
 }
 
 #[test]

@@ -112,7 +112,8 @@ extern "C" {
     /// The book is aligned and can be read.
     pub fn finaruvom_read(book: *const Book, n: usize) -> Reading;
 
-    /// The closing channel with the smallest deadline.
+    /// The closing channel with the smallest deadline, of equal ones that with the larger held sum,
+    /// and only then the lower number.
     ///
     /// # Safety
     ///

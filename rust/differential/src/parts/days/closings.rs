@@ -12,6 +12,7 @@ use crate::parts::World;
 use crate::rng::Rng;
 use finaruvom::raw::Setup;
 use oracle::{DAY, DAYS, LARGEST};
+use std::cmp::Ordering;
 
 /// Cases in a row that have every scene together, as many as a run has at least.
 const CASES: usize = 20;
@@ -147,20 +148,35 @@ fn weekday(rng: &mut Rng) -> u32 {
     7 * week + rng.pick(&[0, 1, 4, 5, 6])
 }
 
-/// Two channels whose deadlines fall on different seconds of a weekend are both due on Monday, the
-/// lower number first.
+/// Two channels whose deadlines fall on different seconds of a weekend are both due on Monday: that
+/// with the larger sum first, and the lower number where the sums are equal.
 fn equal(rng: &mut Rng, world: &mut World) -> Outcome {
     let mut desk = Desk::new(rng, Some(Vec::new()), 172_800, world)?;
     let (first, clock) = (desk.n, desk.pair.oracle.clock);
-    desk.accepted(8, 0, world)?;
-    same("deadline", &desk.deadline(), &345_600)?;
+    let first_sum = closed_for_monday(&mut desk, rng.pick(&WAYS), world)?;
     desk.another(world)?;
     let later = 1 + rng.below(172_799) as u64;
     desk.accepted(1, clock + later, world)?;
-    desk.accepted(8, 0, world)?;
-    same("second deadline", &desk.deadline(), &345_600)?;
-    let lower = first.min(desk.n) as u8;
-    same("due", &desk.pair.library.due(), &Some(lower))?;
+    let sum = closed_for_monday(&mut desk, rng.pick(&WAYS), world)?;
+    let due = match first_sum.cmp(&sum) {
+        Ordering::Greater => first,
+        Ordering::Equal => first.min(desk.n),
+        Ordering::Less => desk.n,
+    };
+    same("due", &desk.pair.library.due(), &Some(due as u8))?;
     world.tally.compared(EQUAL);
     desk.pair.read(&mut world.tally)
+}
+
+/// Closes the channel in this way, with a deadline on the first Monday, and gives what it holds: the
+/// total where the merchant closes alone, a third of it where the customer does.
+fn closed_for_monday(desk: &mut Desk, way: &[u8], world: &mut World) -> Result<u64, String> {
+    for opcode in way {
+        desk.accepted(*opcode, 0, world)?;
+        same("deadline", &desk.deadline(), &345_600)?;
+    }
+    Ok(match way {
+        [8] => desk.total(),
+        _ => desk.total() / 3,
+    })
 }

@@ -75,6 +75,11 @@ impl Desk {
         same(&what, &self.file(opcode, time, world)?, &0)
     }
 
+    /// The deposits of the channel together.
+    pub fn total(&self) -> u64 {
+        self.terms.total()
+    }
+
     /// The deadline that the channel has.
     pub fn deadline(&self) -> u64 {
         self.pair.oracle.channels[usize::from(self.n)].deadline
