@@ -17,6 +17,10 @@ use Rattle.machine.proofs.Laws.{and-other, or-either}
 abbrev at : List Channel → ℕ → Channel
 at l i = getD l i noChannel
 
+-- A channel is not before a deadline and a sum.
+abbrev Behind : ℕ → ℕ → Channel → Type 0
+Behind deadline sum ch = (deadline ≤ ch .deadline .0) × (ch .deadline .0 ≡ deadline → held ch ≤ sum)
+
 -- What it says that a channel comes before the soonest of others, and that it does not.
 module _ (ch : Channel) (s : Soonest) where
   ahead : precedes ch s ≡ true → (ch .deadline .0 ≤ s .deadline .0) × (s .deadline .0 ≡ ch .deadline .0 → s .held .0 ≤ held ch)
@@ -35,8 +39,7 @@ record First (k : ℕ) (l : List Channel) (s : Soonest) (i : ℕ) : Type 0 where
   closes : closing (at l i) ≡ true
   dated : s .deadline .0 ≡ (at l i) .deadline .0
   holds : s .held .0 ≡ held (at l i)
-  least : (j : ℕ) → closing (at l j) ≡ true → s .deadline .0 ≤ (at l j) .deadline .0
-  larger : (j : ℕ) → closing (at l j) ≡ true → (at l j) .deadline .0 ≡ s .deadline .0 → held (at l j) ≤ s .held .0
+  others : (j : ℕ) → closing (at l j) ≡ true → Behind (s .deadline .0) (s .held .0) (at l j)
   lower : (j : ℕ) → closing (at l j) ≡ true → j < i → (at l j) .deadline .0 ≡ s .deadline .0 → held (at l j) < s .held .0
 
 -- Either it is there, or no channel is closing.
@@ -51,22 +54,20 @@ this k ch = record { some = true; number = k; deadline = ch .deadline; held = ce
 module _ (k : ℕ) (ch : Channel) (l : List Channel) (s : Soonest) (t : Told (suc k) l s) where
   took : closing ch ≡ true → (not (s .some) || precedes ch s) ≡ true → Told k (ch ∷ l) (this k ch)
   took c e = record {
-    some = λ _. (0, record { numbered = omega arith; closes = c; dated = refl; holds = refl; least = λ j h. (all j h) .0; larger = λ j h. (all j h) .1; lower = λ j _ h. absurd (omega arith) });
+    some = λ _. (0, record { numbered = omega arith; closes = c; dated = refl; holds = refl; others = others; lower = λ j _ h. absurd (omega arith) });
     none = λ h. absurd (clash refl h);
   }
     where
-      rest : (x : Bool) → s .some ≡ x → (not x || precedes ch s) ≡ true → (j : ℕ) → closing (at l j) ≡ true
-          → (ch .deadline .0 ≤ (at l j) .deadline .0) × ((at l j) .deadline .0 ≡ ch .deadline .0 → held (at l j) ≤ held ch)
+      rest : (x : Bool) → s .some ≡ x → (not x || precedes ch s) ≡ true → (j : ℕ) → closing (at l j) ≡ true → Behind (ch .deadline .0) (held ch) (at l j)
       rest true z e j h =
           let a = ahead ch s e in
-          let f = (t .some z) .1 in
-          let least = f .least j h in
-          (omega (arith, a .0, least), λ q. let w : s .deadline .0 ≡ ch .deadline .0 = omega (arith, a .0, least, q) in omega (arith, a .1 w, f .larger j h (omega (arith, q, w))))
+          let b = (t .some z) .1 .others j h in
+          (omega (arith, a .0, b .0), λ q. let w : s .deadline .0 ≡ ch .deadline .0 = omega (arith, a .0, b .0, q) in omega (arith, a .1 w, b .1 (omega (arith, q, w))))
       rest false z e j h = absurd (clash h (t .none z j))
 
-      all : (j : ℕ) → closing (at (ch ∷ l) j) ≡ true → (ch .deadline .0 ≤ (at (ch ∷ l) j) .deadline .0) × ((at (ch ∷ l) j) .deadline .0 ≡ ch .deadline .0 → held (at (ch ∷ l) j) ≤ held ch)
-      all zero h = (omega arith, λ _. omega arith)
-      all (suc j) h = rest (s .some) refl e j h
+      others : (j : ℕ) → closing (at (ch ∷ l) j) ≡ true → Behind (ch .deadline .0) (held ch) (at (ch ∷ l) j)
+      others zero h = (omega arith, λ _. omega arith)
+      others (suc j) h = rest (s .some) refl e j h
 
   passes : (closing ch && (not (s .some) || precedes ch s)) ≡ false → Told k (ch ∷ l) s
   passes e = record { some = some; none = none }
@@ -80,10 +81,9 @@ module _ (k : ℕ) (ch : Channel) (l : List Channel) (s : Soonest) (t : Told (su
       some z =
           let i = (t .some z) .0 in
           let f = (t .some z) .1 in
-          let least : (j : ℕ) → closing (at (ch ∷ l) j) ≡ true → s .deadline .0 ≤ (at (ch ∷ l) j) .deadline .0 = elim [ zero ↦ λ h. (late (s .some) h e) .1 | suc j ↦ λ h. f .least j h ] in
-          let larger : (j : ℕ) → closing (at (ch ∷ l) j) ≡ true → (at (ch ∷ l) j) .deadline .0 ≡ s .deadline .0 → held (at (ch ∷ l) j) ≤ s .held .0 = elim [ zero ↦ λ h q. let w = (late (s .some) h e) .2 q in omega (arith, w) | suc j ↦ λ h. f .larger j h ] in
+          let others : (j : ℕ) → closing (at (ch ∷ l) j) ≡ true → Behind (s .deadline .0) (s .held .0) (at (ch ∷ l) j) = elim [ zero ↦ λ h. let b = late (s .some) h e in (b .1, λ q. omega (arith, b .2 q)) | suc j ↦ λ h. f .others j h ] in
           let lower : (j : ℕ) → closing (at (ch ∷ l) j) ≡ true → j < suc i → (at (ch ∷ l) j) .deadline .0 ≡ s .deadline .0 → held (at (ch ∷ l) j) < s .held .0 = elim [ zero ↦ λ h _. (late (s .some) h e) .2 | suc j ↦ λ h m. f .lower j h (omega arith) ] in
-          (suc i, record { numbered = omega (arith, f .numbered); closes = f .closes; dated = f .dated; holds = f .holds; least = least; larger = larger; lower = lower })
+          (suc i, record { numbered = omega (arith, f .numbered); closes = f .closes; dated = f .dated; holds = f .holds; others = others; lower = lower })
 
       first : (x : Bool) → closing ch ≡ x → s .some ≡ false → closing ch ≡ false
       first true c z = absurd (clash ((late (s .some) c e) .0) z)
@@ -125,8 +125,8 @@ due-means b = record { named = λ n e. named (sound b) refl ((soonest 0 (b .chan
         (record {
           steady = p;
           closes = f .closes;
-          least = λ m h. omega (arith, f .least m h, f .dated);
-          larger = λ m h e. let w = f .larger m h (omega (arith, e, f .dated)) in omega (arith, w, f .holds);
+          least = λ m h. omega (arith, (f .others m h) .0, f .dated);
+          larger = λ m h e. let w = (f .others m h) .1 (omega (arith, e, f .dated)) in omega (arith, w, f .holds);
           lower = λ m h j e. let w = f .lower m h j (omega (arith, e, f .dated)) in omega (arith, w, f .holds);
         })
     named true p false q n e = let z : _≡_ {A = ℕ} 0 1 = cc in absurd (omega (arith, z))
