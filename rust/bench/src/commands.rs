@@ -43,6 +43,16 @@ pub fn commands() {
     let settle = command(&mut wallet, 0x0a);
     time("0A refused with 5", &book(&wallet, 3, 0), &settle);
     time("0A refused with 99", &book(&wallet, 7, 0), &settle);
+    due(&book(&wallet, 5, CLOCK + 3_600));
+}
+
+/// Times what is due of a book whose channels are all closing, with one deadline and sum.
+fn due(book: &Book) {
+    let same = to_oracle(book.as_raw());
+    assert_eq!((book.due(), oracle::due(&same)), (Some(0), Some(0)));
+    let library = best(|| (), |()| book.due());
+    let oracle = best(|| (), |()| oracle::due(&same));
+    row("due, 64 equal closings", library, oracle);
 }
 
 /// Times closings whose deadline falls on the first of 64 shut dates in a row, and a settling in such
