@@ -1,5 +1,4 @@
 // Wrong functions for a library, a file for each function and a macro for each fault: tests/wrong puts one in the place of the right one, here called `right`.
-// A macro that names no fault leaves the function right.
 #include "../../include/finaruvom.h"
 #include <string.h>
 

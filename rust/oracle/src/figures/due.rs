@@ -91,32 +91,6 @@ fn largest_sum() {
     assert_eq!(first(keeps(1_000, MONDAY), merchant), Some(5));
 }
 
-/// A lent book may hold any deadline.
-#[test]
-fn any_deadline() {
-    for deadline in [0, 1, LARGEST, 1 << 63, u64::MAX] {
-        let at = |third, fifth| first(keeps(third, deadline), keeps(fifth, deadline));
-        assert_eq!(at(700, 900), Some(5), "{deadline}");
-        assert_eq!(at(900, 700), Some(3), "{deadline}");
-        assert_eq!(at(900, 900), Some(3), "{deadline}");
-    }
-    for (earlier, later) in [(0, 1), (LARGEST, 1 << 63), (u64::MAX - 1, u64::MAX)] {
-        assert_eq!(first(keeps(1, earlier), keeps(900, later)), Some(3));
-        assert_eq!(first(keeps(900, later), keeps(1, earlier)), Some(5));
-    }
-}
-
-/// A channel that nobody is closing is never due, with a smaller deadline and a larger sum.
-#[test]
-fn others() {
-    for status in [0, 1, 2, 3, 6] {
-        let other = channel(status, 2_000, 2_000, 0);
-        assert_eq!(first(other, keeps(0, MONDAY)), Some(5), "{status}");
-        assert_eq!(first(keeps(0, MONDAY), other), Some(3), "{status}");
-        assert_eq!(first(other, other), None, "{status}");
-    }
-}
-
 #[test]
 fn unsound() {
     let sound = book(keeps(700, MONDAY), keeps(900, MONDAY));
