@@ -1,4 +1,4 @@
--- The starred figures, and those of document 02, No. 2, No. 5, No. 7 and No. 8: the rules by computing, the chain steps by the law of `lms`.
+-- The starred figures, and those of document 02, No. 2, No. 5, No. 7, No. 8 and No. 9: the rules by computing, the chain steps by the law of `lms`.
 use mathlib.Core.Path.{refl}
 use mathlib.Core.List.{List}
 use Prim.Native.Nat.{ℕ}
