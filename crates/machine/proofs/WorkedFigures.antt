@@ -84,7 +84,7 @@ due-figures key other lock id d x v w q default fee used = record {
   both-nothing = refl;
   total = refl;
   whole = refl;
-  still-open = refl;
+  open-account = refl;
 }
 
 opening-figures : (lent : Book) (id : List ℕ) → OpeningFigures lent id

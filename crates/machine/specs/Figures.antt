@@ -175,7 +175,7 @@ module _ (key other lock id : List ℕ) (d x v w q default fee : ℕ) (used : Le
     pub both-nothing : due (beside (example 5 4600 0) (example 5 4600 0)) ≡ number 3
     pub total : due (beside (example 5 4600 999) (example 4 4600 x)) ≡ number 5
     pub whole : due (beside (example 5 4600 1000) (example 4 4600 x)) ≡ number 3
-    pub still-open : due (beside (example 5 4600 0) (example 3 d x)) ≡ number 3
+    pub open-account : due (beside (example 5 4600 0) (example 3 d x)) ≡ number 3
 
 -- What an opening answers that is given a list: the fee is told before a date, and a date before the order.
 pub record OpeningFigures (lent : Book) (id : List ℕ) : Type 0 where
