@@ -1,4 +1,6 @@
 // Big-endian numbers, parts of a byte string, and whether two are equal. Only the product's own parts call it.
+#![tactic(auto)]
+
 mod numbers;
 mod parts;
 
