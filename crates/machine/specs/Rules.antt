@@ -130,12 +130,12 @@ abbrev pub shares_all : ℕ → ℕ → Channel → Bool
 shares_all c b ch = eqb (c + b) (total ch)
 
 unfoldable pub mutual_close : ℕ → ℕ → Verdict → Verdict → Channel → Plan
-mutual_close c b by_merchant byCustomer ch = record {
+mutual_close c b by_merchant by_customer ch = record {
   checks =
       test 5 (eqb ch.status 3)
       ∷ test 8 (shares_all c b ch)
       ∷ signed 11 by_merchant
-      ∷ signed 12 byCustomer
+      ∷ signed 12 by_customer
       ∷ [];
   channel = become 6 ch;
   pays = pay c b;
@@ -158,13 +158,13 @@ abbrev pub closing_leaves : ℕ → Channel → Leaves
 closing_leaves q ch = leaves (cond (eqb ch.status 3) q ch.leaves.first) q
 
 unfoldable pub customer_close : Context → List ℕ → ℕ → ℕ → Verdict → Verdict → Channel → Plan
-customer_close at lock c b by_merchant byCustomer ch = record {
+customer_close at lock c b by_merchant by_customer ch = record {
   checks =
       test 5 (eqb ch.status 3 || eqb ch.status 4)
       ∷ test 8 (shares_all c b ch)
       ∷ test 9 (eqb ch.status 3 || ltb at.clock.0 ch.deadline.0)
       ∷ signed 11 by_merchant
-      ∷ signed 12 byCustomer
+      ∷ signed 12 by_customer
       ∷ [];
   channel = moved ch 5 (closes_at at ch) c lock (closing_leaves by_merchant.leaf ch);
   pays = pay 0 b;
