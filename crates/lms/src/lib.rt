@@ -1,4 +1,6 @@
 // The signature check of RFC 8554: LMS type 6 (SHA-256, height 10) over LM-OTS type 4 (w = 8, 34 chains).
+#![tactic(auto)]
+
 ghost use Rattle.std.specs.Prelude.{◌≡◌, cond, ◌≤◌, length};
 ghost use Rattle.lms.specs.Check.{Formed, verified_of, check_of};
 

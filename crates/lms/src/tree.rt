@@ -19,6 +19,7 @@ pub fn inner_node(id: [u8; 16], node: u32, left: [u8; 32], right: [u8; 32]) -> [
 }
 
 // The value of the parent of a node with value child: an odd node is the right child.
+#[tactic(auto, unfolding(crate::specs::Tree::parent_of))]
 pub fn parent(id: [u8; 16], node: u32, child: [u8; 32], sibling: [u8; 32]) -> [u8; 32]
     ensures { result ≡ parent_of id node child sibling }
 {

@@ -1,4 +1,6 @@
 // SHA-256 (FIPS 180-4) of at most 65,536 bytes.
+#![tactic(auto)]
+
 ghost use Rattle.std.specs.Prelude.{◌≡◌};
 ghost use Rattle.sha256.specs.Answer.{hash_answer};
 
@@ -11,13 +13,14 @@ pub use state::Sha256;
 pub use step::{hash_after, value_at};
 
 // What `hash` answers: the refusal, or 0, and the digest.
-#[derive(Drop)]
+#[derive(Clone, Copy)]
 pub struct Hashed {
     pub refusal: u32,
     pub digest: [u8; 32],
 }
 
 // The digest of at most 65,536 bytes, with refusal 0; of more, refusal 2 and zeros.
+#[tactic(auto, using(crate::proofs::Feeding::fed))]
 pub fn hash(bytes: &[u8]) -> Hashed
     ensures { result ≡ hash_answer bytes.now }
 {

@@ -6,7 +6,7 @@ ghost use Rattle.sha256.specs.State.{Taken, Fed};
 use crate::bytes::{bit_length, digest, written};
 use sha256_block::{Variables, compress};
 
-#[derive(Drop)]
+#[derive(Clone, Copy)]
 pub struct Sha256 {
     pub h: Variables,
     pub buf: [u8; 64],

@@ -8,7 +8,7 @@ use crate::functions::{add, big_sigma_one, big_sigma_zero, ch, maj};
 use crate::schedule::{Words, block_words, next_words};
 
 // The eight working variables; and a hash value, whose words H0 to H7 are the fields a to h.
-#[derive(Drop)]
+#[derive(Clone, Copy)]
 pub struct Variables {
     pub a: u32,
     pub b: u32,

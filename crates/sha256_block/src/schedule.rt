@@ -7,7 +7,7 @@ use crate::functions::{add, small_sigma_one, small_sigma_zero};
 use wire::u32_at;
 
 // Sixteen words in a row.
-#[derive(Drop)]
+#[derive(Clone, Copy)]
 pub struct Words {
     pub w0: u32,
     pub w1: u32,

@@ -1,0 +1,6 @@
+use Rattle.sha256_block.specs.Block.{next_word}
+use Rattle.sha256_block.proofs.schedule.next_word.Goals as goal
+
+pub returns : goal.returns
+unfolding next_word
+returns c = cc
