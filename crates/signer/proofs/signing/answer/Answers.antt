@@ -1,21 +1,15 @@
 -- By the lengths, and then by the next leaf.
-use Prim.Native.Nat.{ℕ}
-use native.Mathlib.Omega.{arith}
-use borrow.Author.Rules.{rules}
-use borrow.Author.Tests.{eq-eqb, ne_eqb, le-leb, lt-leb, lt-ltb, le-ltb}
-use mathlib.Core.Path.{◌≡◌, refl, ap, sym, ◌∙◌}
-use mathlib.Core.Bool.{Bool, true, false, ◌&&◌, and-false}
-use mathlib.Core.List.{List}
+use Rattle.std.proofs.Common.{◌≡◌, ap, sym, refl, ◌∙◌, ℕ, Bool, true, false, List, length, take, arith}
+use mathlib.Core.Bool.{◌&&◌, and-false}
 use lib.Dec.{eqb, leb, ltb}
-use lib.ListN.{length, take}
 use lib.Seq.{take_all}
+use borrow.Author.Tests.{eq-eqb, ne_eqb, le-leb, lt-leb, lt-ltb, le-ltb}
 use Rattle.lms.specs.Layout.{identifier}
 use Rattle.signer.specs.declared.state.Signer.{Signer}
 use Rattle.signer.specs.declared.state.Signature.{Signature}
 use Rattle.signer.specs.Signature.{signature_of}
 use Rattle.signer.specs.Answers.{no_signature, signed_by, sign_of}
-use Rattle.signer.proofs.signing.answer.Statement.{statement}
-use Rattle.signer.proofs.signing.answer.Tie as tie
+use Rattle.signer.proofs.signing.answer.Goals as goal
 
 module _ (s : Signer) (C m : List ℕ) where
   by : (a b c : Bool) → eqb (length C) 32 ≡ a → leb (length m) 1024 ≡ b → ltb s.next 1024 ≡ c → (signed_by (a && b) c s C m).signature ≡ (sign_of s C m).signature
@@ -40,48 +34,19 @@ module _ (s : Signer) (C m : List ℕ) where
       e ∙ ap (λ (z : List ℕ). signature_of s.seed (identifier s.key) s.nodes s.next z m) (f ∙ take_all 32 C (omega arith)) in
       ap (λ (z : List ℕ). record { refusal = 0; bytes = z }) g ∙ by true true true (eq-eqb _ _ p) q h
 
-returns : tie.Need-returns
+pub returns-then-nonce-ne32 : goal.returns-then-nonce-ne32
+returns-then-nonce-ne32 c = wrong-nonce c.args.signer c.args.nonce.now c.args.message.now _ c.refused.ensures c.if-nonce-ne32.true
+
+pub returns-then-message-gt1024 : goal.returns-then-message-gt1024
+returns-then-message-gt1024 c = too_long c.args.signer c.args.nonce.now c.args.message.now _ c.refused-then-message-gt1024.ensures (lt-leb _ _ c.if-message-gt1024.true)
+
+pub returns-then-signer-ge1024 : goal.returns-then-signer-ge1024
+returns-then-signer-ge1024 c =
+    none_left c.args.signer c.args.nonce.now c.args.message.now _ c.refused-then-signer-ge1024.ensures c.if-nonce-ne32.false (le-leb _ _ c.if-message-gt1024.false)
+    (le-ltb _ _ c.if-signer-ge1024.true)
+
+pub returns : goal.returns
 returns c =
-    let t = c.before in
-    let a = t.before.before.before.args in
-    wrong-nonce a.signer a.nonce.now a.message.now _ c.refused.ensures t.if1.true
-
-returns-2 : tie.Need-returns-2
-returns-2 c =
-    let t = c.before in
-    let a = t.before.before.before.before.args in
-    too_long a.signer a.nonce.now a.message.now _ c.refused2.ensures (lt-leb _ _ t.if2.true)
-
-returns-3 : tie.Need-returns-3
-returns-3 c =
-    let t₃ = c.before in
-    let t₂ = t₃.before.before in
-    let t₁ = t₂.before in
-    let a = t₁.before.before.before.args in
-    none_left a.signer a.nonce.now a.message.now _ c.refused3.ensures t₁.if1.false (le-leb _ _ t₂.if2.false) (le-ltb _ _ t₃.if3.true)
-
-returns-4 : tie.Need-returns-4
-returns-4 c =
-    let at-nonce = c.before in
-    let at_path = at-nonce.before.before.before in
-    let t₃ = at_path.before in
-    let t₂ = t₃.before.before in
-    let t₁ = t₂.before in
-    let a = t₁.before.before.before.args in
-    accepted a.signer a.nonce.now a.message.now _ _ (c.signature-by.ensures a.signer.nodes at_path.path-of.ensures) at-nonce.digest-at.ensures t₁.if1.false
-    (le-leb _ _ t₂.if2.false) (lt-ltb _ _ t₃.if3.false)
-
-pub answer_spec : {M : Type 1} → statement M
-answer_spec =
-    tie.close
-    (tie.spec
-    (λ c κs. search rules)
-    returns
-    (λ c κs. search rules)
-    returns-2
-    (λ c κs. search rules)
-    returns-3
-    (λ c κs. search rules)
-    (λ c κs. search rules)
-    (λ c κs. search rules)
-    returns-4)
+    let a = c.args in
+    accepted a.signer a.nonce.now a.message.now _ _ (c.signature_by-bytes.ensures a.signer.nodes c.path_of-path.ensures) c.digest_at.ensures
+    c.if-nonce-ne32.false (le-leb _ _ c.if-message-gt1024.false) (lt-ltb _ _ c.if-signer-ge1024.false)
