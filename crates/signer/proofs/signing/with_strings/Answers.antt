@@ -1,4 +1,4 @@
-use Rattle.std.proofs.Common.{◌≡◌, ap, ◌∙◌, ℕ, ◌+◌, ◌-◌, ◌*◌, List, ◌++◌, length, replicate, arith}
+use Rattle.std.proofs.Common.{◌≡◌, ap, ◌∙◌, ℕ, ◌+◌, ◌-◌, ◌*◌, ◌++◌, length, replicate, arith}
 use lib.Seq.{length-paste}
 use Rattle.lms.specs.Rows.{row}
 use Rattle.signer.specs.Signature.{signed_string}
