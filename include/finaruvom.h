@@ -1,4 +1,4 @@
-// The channel arbiter for C (C11) and C++ (C++11) on x86-64 Linux: link libfinaruvom.a, which `rt staticlib finaruvom` makes.
+// The channel arbiter for C (C11) and C++ (C++11) on x86-64 Linux: link libfinaruvom.a, which `tools/made finaruvom` makes.
 // What the bytes of a command mean stands in docs/FORMAT.md. Every program part that includes this header is linked with the library.
 //
 // Any bytes may stand in a book, in a signer and in a command: nothing is asked of them. What is asked of the caller stands under "Duties" at each function,

@@ -9,7 +9,7 @@ fn main() {
     println!("cargo:rerun-if-changed={}", archive.display());
     if !archive.is_file() {
         eprintln!(
-            "{} is missing: `rt staticlib lms_bench` makes it.",
+            "{} is missing: `tools/made lms_bench` makes it.",
             archive.display()
         );
         std::process::exit(1);

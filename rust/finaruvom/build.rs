@@ -9,7 +9,7 @@ fn main() {
     println!("cargo:rerun-if-changed={}", archive.display());
     if !archive.is_file() {
         eprintln!("{} is missing.", archive.display());
-        eprintln!("Make it with `rt staticlib finaruvom` at the repository's root,");
+        eprintln!("Make it with `tools/made finaruvom` at the repository's root,");
         eprintln!("or name the folder that holds it in FINARUVOM_LIB, by its whole path.");
         std::process::exit(1);
     }

@@ -1,3 +1,2 @@
--- What the calls on a lent book have in common, and what an opening's checks tell.
-pub mod Outcomes
+-- What an opening's checks tell.
 pub mod Openings

@@ -1,6 +1,6 @@
 -- An opening whose checks have been made.
 use mathlib.Core.Path.{◌≡◌, refl, sym, ap, ◌∙◌}
-use mathlib.Core.Bool.{true}
+use mathlib.Core.Bool.{Bool, true}
 use mathlib.Core.List.{List}
 use Prim.Native.Nat.{ℕ}
 use lib.ListN.{length}
@@ -9,8 +9,10 @@ use native.Mathlib.Omega.{arith}
 use borrow.Author.Tests.{eq-eqb, ne_eqb, eqb-true}
 use Rattle.wire.specs.Parts.{part}
 use Rattle.calendar.specs.Days.{rising}
-use Rattle.calendar.specs.Lists.{in_order, kept_days}
-use Rattle.machine.specs.Checks.{clean, ask, judge}
+use Rattle.calendar.specs.Lists.{all_dates, in_order, kept_days}
+use lib.Dec.{eqb, leb}
+use Rattle.machine.specs.Book.{ranged, highest}
+use Rattle.machine.specs.Checks.{test, clean, ask, judge}
 use Rattle.machine.specs.Opening.{Opening, plainly, dates_of, opening_checks, kept_by, setup_of, fresh_book, fresh, opening}
 use Rattle.machine.specs.declared.state.Book.{Book}
 use Rattle.machine.specs.declared.answers.Judged.{Judged}
@@ -31,6 +33,12 @@ module _ (o : Opening) (j : Judged) (e : j ≡ judge clean (opening_checks o)) w
 
   pub whole_id : j.refusal ≡ 0 → length o.id ≡ 16
   whole_id h = eqb-true _ _ (judge_passed (opening_checks o) clean refl (ap (λ (i : Judged). i.refusal) (sym e) ∙ h)).1.0
+
+-- The checks as they are made, one after the other.
+pub asked : (o : Opening) {j₀ j₁ j₂ j₃ j₄ j₅ : Judged} {d f e t : Bool} → j₀ ≡ clean → j₁ ≡ ask j₀ (test 2 (eqb (length o.id) 16)) → d ≡ ranged o.settings.delay → j₂ ≡ ask j₁ (test 14 d)
+    → f ≡ leb o.settings.fee highest → j₃ ≡ ask j₂ (test 20 f) → e ≡ all_dates (dates_of o) → j₄ ≡ ask j₃ (test 21 e) → t ≡ in_order (dates_of o) → j₅ ≡ ask j₄ (test 22 t)
+    → j₅ ≡ judge clean (opening_checks o)
+asked o a₀ a₁ d a₂ f a₃ e a₄ t a₅ = a₅ ∙ rw (a₄, a₃, a₂, a₁, a₀, d, f, e, t)
 
 -- The book of an opening, with what was made of its id and its dates.
 pub fresh_by : (o : Opening) (id days : List ℕ) (count : ℕ) → id ≡ o.id → days ≡ kept_days (dates_of o) → count ≡ length (dates_of o) → fresh_book id (kept_by o.settings days count) ≡ fresh o

@@ -1,4 +1,6 @@
 // The channel arbiter: a book of 64 payment channels. A book is lent to `open`, `open_with`, `apply`, `read` and `due`, each of which has a form by value beside it.
+#![tactic(auto)]
+
 mod lent;
 mod next;
 mod opening;

@@ -1,4 +1,6 @@
 // Rows of decimal numbers, as text. Only the text of a statement calls it.
+#![tactic(auto)]
+
 mod numbers;
 
 pub use numbers::put_row;

@@ -1,4 +1,6 @@
 // The desk's fee: its limit, and a payment to the merchant divided. Only the product's own parts call it.
+#![tactic(auto)]
+
 ghost use Rattle.std.specs.Prelude.{◌≡◌, ◌≤◌, leb};
 ghost use Rattle.machine.specs.Book.{highest};
 ghost use Rattle.machine.specs.Fee.{fee_of, charged};

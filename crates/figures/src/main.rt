@@ -1,13 +1,15 @@
 // Runs rows from standard input on one book, and prints what each comes to: openings, commands, readings, due, and values written into
 // the lent book from outside.
+#![tactic(auto)]
+
 mod book;
 mod lines;
 mod rows;
 
-use libc::STDIN_FILENO;
+use inputs::read_full;
 
-fn main() {
-    let mut input = io::large_buffer();
-    let n = io::read_full(STDIN_FILENO, &mut input);
-    rows::run(&input[..n]);
+fn main(rt: HostRuntime) {
+    let mut input = [0u8; 65536];
+    let n = read_full(&mut rt.stdin(), &mut input);
+    rows::run(&rt, &input[..n]);
 }

@@ -7,14 +7,14 @@ use arbiter::{Book, Settings};
 use wire::{u16_at, u32_at};
 
 // An opening, with the row's bytes as the id.
-fn open_row(book: Book, bytes: &[u8]) -> Book {
+fn open_row(rt: &impl Print, book: Book, bytes: &[u8]) -> Book {
     let opened = arbiter::opened(book, bytes);
-    print_opened(opened.refusal);
+    print_opened(rt, opened.refusal);
     opened.book
 }
 
 // An opening with settings and no list of dates: four bytes of default delay, four of fee, then the id. A number that is no date stands there unseen.
-fn open_with_row(book: Book, bytes: &[u8]) -> Book {
+fn open_with_row(rt: &impl Print, book: Book, bytes: &[u8]) -> Book {
     if bytes.len() < 8 {
         return book;
     }
@@ -25,7 +25,7 @@ fn open_with_row(book: Book, bytes: &[u8]) -> Book {
     };
     let unseen = [0u32; 1];
     let opened = arbiter::opened_with(book, &bytes[8..], settings, &unseen);
-    print_opened(opened.refusal);
+    print_opened(rt, opened.refusal);
     opened.book
 }
 
@@ -43,7 +43,7 @@ fn dates_in(bytes: &[u8]) -> [u32; 72]
 }
 
 // The same with a list: the default delay, the fee, an id of 16 bytes, then four bytes for each of at most 72 dates.
-fn open_dated_row(book: Book, bytes: &[u8]) -> Book {
+fn open_dated_row(rt: &impl Print, book: Book, bytes: &[u8]) -> Book {
     if bytes.len() < 24 {
         return book;
     }
@@ -58,48 +58,48 @@ fn open_dated_row(book: Book, bytes: &[u8]) -> Book {
         dated: true,
     };
     let opened = arbiter::opened_with(book, &bytes[8..24], settings, &dates[..count]);
-    print_opened(opened.refusal);
+    print_opened(rt, opened.refusal);
     opened.book
 }
 
 // The row's bytes as a command.
-fn command_row(book: Book, bytes: &[u8]) -> Book {
+fn command_row(rt: &impl Print, book: Book, bytes: &[u8]) -> Book {
     let stepped = arbiter::step(book, bytes);
     let answer = stepped.answer;
-    print_answer(answer);
+    print_answer(rt, answer);
     stepped.book
 }
 
 // A reading of the channel that two bytes name.
-fn reading_row(book: Book, bytes: &[u8]) {
+fn reading_row(rt: &impl Print, book: Book, bytes: &[u8]) {
     if bytes.len() != 2 {
         return;
     }
     let reading = arbiter::read_of(book, u16_at(bytes, 0) as usize);
-    print_reading(reading);
+    print_reading(rt, reading);
 }
 
 // What a row makes of the book.
-fn row(book: Book, kind: u8, bytes: &[u8]) -> Book {
+fn row(rt: &impl Print, book: Book, kind: u8, bytes: &[u8]) -> Book {
     if kind == 1 {
-        return open_row(book, bytes);
+        return open_row(rt, book, bytes);
     }
     if kind == 2 {
-        return command_row(book, bytes);
+        return command_row(rt, book, bytes);
     }
     if kind == 3 {
-        reading_row(book, bytes);
+        reading_row(rt, book, bytes);
         return book;
     }
     if kind == 4 {
-        print_due(arbiter::due_of(book));
+        print_due(rt, arbiter::due_of(book));
         return book;
     }
     if kind == 6 {
-        return open_with_row(book, bytes);
+        return open_with_row(rt, book, bytes);
     }
     if kind == 8 {
-        return open_dated_row(book, bytes);
+        return open_dated_row(rt, book, bytes);
     }
     overwritten(book, bytes)
 }
@@ -122,9 +122,9 @@ fn row_end(m: &[u8], at: usize) -> usize
 }
 
 // A row of m, or once more the row that begins at the place in its four bytes.
-fn row_of(book: Book, m: &[u8], kind: u8, bytes: &[u8]) -> Book {
+fn row_of(rt: &impl Print, book: Book, m: &[u8], kind: u8, bytes: &[u8]) -> Book {
     if kind != 7 {
-        return row(book, kind, bytes);
+        return row(rt, book, kind, bytes);
     }
     if bytes.len() != 4 {
         return book;
@@ -137,11 +137,11 @@ fn row_of(book: Book, m: &[u8], kind: u8, bytes: &[u8]) -> Book {
     if end - at < 3 {
         return book;
     }
-    row(book, m[at], &m[at + 3..end])
+    row(rt, book, m[at], &m[at + 3..end])
 }
 
 // Runs every whole row of m, on a book to lend.
-pub fn run(m: &[u8]) {
+pub fn run(rt: &impl Print, m: &[u8]) {
     let mut book = arbiter::blank();
     let mut at: usize = 0;
     while at < m.len() {
@@ -149,7 +149,7 @@ pub fn run(m: &[u8]) {
         if end - at < 3 {
             return;
         }
-        let next = row_of(book, m, m[at], &m[at + 3..end]);
+        let next = row_of(rt, book, m, m[at], &m[at + 3..end]);
         book = next;
         at = end;
     }

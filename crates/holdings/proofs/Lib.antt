@@ -1,2 +1,2 @@
--- Laws of sums that cannot wrap.
+-- Laws of cents and of a sound channel's total.
 pub mod WholeSums

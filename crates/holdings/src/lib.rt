@@ -1,4 +1,6 @@
 // What one channel holds: sums of cents that cannot wrap, whether its values are sound, and a reading of it. Only the product's own parts call it.
+#![tactic(auto)]
+
 mod readings;
 mod soundness;
 mod sums;

@@ -5,8 +5,8 @@ use Prim.Native.Nat.{ℕ}
 use mathlib.Core.List.{[], ◌∷◌, List}
 use lib.Dec.{T}
 use seplogic.Ra.Ura.{Ura}
-use seplogic.Ra.TreeShare.{full_share}
-use mir.Syntax.{Sym, Name, Ty, Fn, named, erased, imm, mut, ty_ref, ty_struct, tcons, tnil, local, value_local, place, deref, field, copy, rv_opd, addr_of, assign, call, seq, «return»}
+use base.Fraction.{full_share}
+use mir.Syntax.{Sym, Callee, Ty, Fn, named, erased, imm, mut, ty_ref, ty_struct, tcons, tnil, local, value_local, place, deref, field, copy, rv_opd, addr_of, assign, call, seq, «return»}
 use mir.Val.{Val, vptr, vstruct, vcons, vnil, WT, has_ty}
 use base.Logic.{SProp, ent, sep, emp, via, fst∗, id⊢}
 use base.Fml.{GName, Lft, Share, Fml, ftrue, fsep, fat, flft, fobs, fbor}
@@ -63,7 +63,7 @@ module _ {L : Lent} {S R : RattleType} (O : Outcome L S R) where
   Wrote y r h = (r ≡ O.answer y) × (h ≡ O.held y)
 
 -- What a walk has at its end.
-abbrev pub Left : (L : Lent) {M : Type 1} (𝓤 : Ura M) → Lft → Lft → Share → Share → ℕ → ℕ → GName → MutBor (List ℕ) → Held L → List (Item 𝓤)
+abbrev pub Left : (L : Lent) {M : Type 1} (𝓤 : Ura M) → Lft → Lft → Share → Share → ℕ → ℕ → GName → Bor (List ℕ) → Held L → List (Item 𝓤)
 Left L 𝓤 κ κ' q q' b o γ s h = ‵ (fobs γ ((Row L).coded.code h)) ∷ ‵ (fbor κ (Body (mem (Row L)) b o γ)) ∷ ‵ (flft κ q) ∷ (‵ (flft κ' q') ⊛ ‵ ftrue) ∷ ‵ (OwnSlice (named 1) κ' s) ∷ []
 
 -- F is what the values own that are passed on beside the bytes: it is had for nothing, so what the callee asks for is had, and what the call gives back.
@@ -75,7 +75,7 @@ module _ {M : Type 1} {𝓤 : Ura M} (𝓛 : Logic 𝓤) (F : Fml) (free : ent �
   goes_in L κ q s h was =
       qed 𝓛 (‵ (OwnSlice (named 1) κ s) ∷ (‵ (flft κ q) ⊛ ‵ ftrue) ∷ []) ∵ use0 𝓛 (‵ F) free $ move ! (1 ∷ 0 ∷ []) $ fjoin ! $ owns_held L ! h was $ fjoin ! $ move ! (1 ∷ 0 ∷ []) $ join ! $ frame ! $ done !
 
-  pub gives_back : {L : Lent} {S R : RattleType} (O : Outcome L S R) (κ κ' : Lft) (q q' : Share) (b o : ℕ) (γ : GName) (s : MutBor (List ℕ)) (r : S.Denot) → Is R (O.answer r) (O.val (O.answer r) ∷ [])
+  pub gives_back : {L : Lent} {S R : RattleType} (O : Outcome L S R) (κ κ' : Lft) (q q' : Share) (b o : ℕ) (γ : GName) (s : Bor (List ℕ)) (r : S.Denot) → Is R (O.answer r) (O.val (O.answer r) ∷ [])
       → ent 𝓤 (⋆ 𝓛 (Left L 𝓤 κ κ' q q' b o γ s (O.held r))) (sep 𝓤 (sep 𝓤 (A.lft κ q) (sep 𝓤 (A.lft κ' q') (emp 𝓤)))
       (sep 𝓤 (sem 𝓛 (fsep ((MutRef (named 0) κ (Row L)).own_val (record { ref_ptr = (b, o); ghost_name = γ; now = O.held r }) (vptr b o ∷ [])) (fsep (OwnSlice (named 1) κ' s) F))) (sem 𝓛 (R.own_val (O.answer r) (O.val (O.answer r) ∷ [])))))
   gives_back {L} {S} {R} O κ κ' q q' b o γ s r is =
@@ -83,7 +83,7 @@ module _ {M : Type 1} {𝓤 : Ura M} (𝓛 : Logic 𝓤) (F : Fml) (free : ent �
       use0 𝓛 (‵ F) free $ move ! (2 ∷ 0 ∷ []) $ fjoin ! $ move ! (1 ∷ 0 ∷ []) $ fjoin ! $ owned ! R (Is R) (O.makes 𝓛) (O.answer r) _ is $ move ! (1 ∷ 0 ∷ []) $ done !
 
 -- A call that lends a struct and a slice of bytes to a form by value, and writes the struct that it returns over the lent one.
-module _ (L : Lent) {S R : RattleType} (O : Outcome L S R) (f : Held L → List ℕ → S.Denot) (callee : Name) where
+module _ (L : Lent) {S R : RattleType} (O : Outcome L S R) (f : Held L → List ℕ → S.Denot) (callee : Callee) where
   -- The form by value: its contract.
   abbrev by_value : Ended
   by_value = record {
@@ -114,6 +114,8 @@ module _ (L : Lent) {S R : RattleType} (O : Outcome L S R) (f : Held L → List 
   lent_code = record {
     lifetimes = 2;
     outlives = [];
+    ty_params = [];
+    givens = 0;
     params = 2;
     locals = local O.ty value_local ∷ local (ty_ref (named 0) mut (pointee (Row L).written)) value_local ∷ local (slice_ty (ty_ref (named 1) imm (pointee u8.written))) value_local ∷ local (τ L) value_local ∷ local (σ O) value_local ∷ [];
     body = seq (assign (place 3 []) (rv_opd (copy (place 1 (deref (τ L) ∷ [])))))
@@ -125,7 +127,7 @@ module _ (L : Lent) {S R : RattleType} (O : Outcome L S R) (f : Held L → List 
   abbrev stayed : Stays lent.signature.params lent.kept
   stayed = (stay_ref (0 ∷ []) tt (plain (λ _. Row L)), (stay_none_slice (1 ∷ []) tt (plain (λ _. u8)) yes, tt))
 
-  module _ {M : Type 1} {𝓤 : Ura M} (𝓛 : Logic 𝓤) (κ κ' : Lft) (bounds : AllOutlive 2 [] (κ, (κ', tt))) (q q' : Share) (b o : ℕ) (γ : GName) (h : Held L) (s : MutBor (List ℕ)) where
+  module _ {M : Type 1} {𝓤 : Ura M} (𝓛 : Logic 𝓤) (κ κ' : Lft) (bounds : AllOutlive 2 [] (κ, (κ', tt))) (q q' : Share) (b o : ℕ) (γ : GName) (h : Held L) (s : Bor (List ℕ)) where
     -- The walk's triple, and what it and the callee's contract are taken at.
     open 𝓛 use {H}
 
@@ -183,7 +185,7 @@ module _ (L : Lent) {S R : RattleType} (O : Outcome L S R) (f : Held L → List 
   module _ {M : Type 1} {𝓤 : Ura M} (𝓛 : Logic 𝓤) (𝓜 : Model 𝓤 𝓛.H) (𝓡 : Running 𝓤 𝓛.H 𝓜) (env : Env) where
     open 𝓛 use {H}
 
-    pub lent_meets : (key : Name) → Closed 𝓤 H (tables 𝓤 H 𝓜 𝓡 env).C (tables 𝓤 H 𝓜 𝓡 env).Λ key lent_code
+    pub lent_meets : (key : Callee) → Closed 𝓤 H (tables 𝓤 H 𝓜 𝓡 env).C (tables 𝓤 H 𝓜 𝓡 env).Λ key lent_code
         → (r : Routine) → env callee ≡ r → Triple 𝓤 (𝓡.run r) (ByValue 𝓛) → Triple 𝓤 ((tables 𝓤 H 𝓜 𝓡 env).C key) (LentTo 𝓛)
     lent_meets key closed = by_walk 𝓛 𝓜 𝓡 env key callee lent_code closed (ByValue 𝓛) lent stayed (lent_says 𝓤) (goes 𝓛) (walks 𝓛)
 
@@ -192,6 +194,8 @@ module _ (L : Lent) {S R : RattleType} (O : Outcome L S R) (f : Held L → List 
   passing_code = record {
     lifetimes = 2;
     outlives = [];
+    ty_params = [];
+    givens = 0;
     params = 2;
     locals = local O.ty value_local ∷ local (ty_ref (named 0) mut (pointee (Row L).written)) value_local ∷ local (slice_ty (ty_ref (named 1) imm (pointee u8.written))) value_local ∷ local (ty_ref erased mut (pointee (Row L).written)) value_local ∷ [];
     body = seq (assign (place 3 []) (addr_of (place 1 (deref (τ L) ∷ [])))) (seq (call callee (copy (place 3 []) ∷ copy (place 2 []) ∷ []) (place 0 [])) «return»);
@@ -200,16 +204,16 @@ module _ (L : Lent) {S R : RattleType} (O : Outcome L S R) (f : Held L → List 
   module _ {M : Type 1} {𝓤 : Ura M} (𝓛 : Logic 𝓤) (𝓣 : Tables 𝓤 𝓛.H) (known : Triple 𝓤 (𝓣.C callee) (LentTo 𝓛)) where
     open 𝓛 use {H}
 
-    module _ (κ κ' : Lft) (qs : Shares 2) (bounds : AllOutlive 2 [] (κ, (κ', tt))) (b : Bor (Held L)) (s : Bor (List ℕ)) where
+    module _ (κ κ' : Lft) (qs : Shares 2) (bounds : AllOutlive 2 [] (κ, (κ', tt))) (b : MutBor (Held L)) (s : Bor (List ℕ)) where
       abbrev passed : (LentTo 𝓛).Ghost
       passed = (((κ, (κ', tt)), qs, bounds, (b, (s, tt)), (vptr b.ref_ptr.0 b.ref_ptr.1 ∷ [], (own_slice_val s ∷ [], tt))), tt)
 
       abbrev Got : SProp 𝓤
       Got = on_entry 𝓛 lent.signature passed.0.0 qs passed.0.3 passed.0.4
 
-      passes : Is (ShrSlice (named 1) κ' u8) s (own_slice_val s ∷ []) → ent 𝓤 Got (WpFn 𝓤 H 𝓣.C 𝓣.Λ passing_code (vptr b.ptr.0 b.ptr.1 ∷ own_slice_val s ∷ []) ((LentTo 𝓛).post passed))
+      passes : Is (ShrSlice (named 1) κ' u8) s (own_slice_val s ∷ []) → ent 𝓤 Got (WpFn 𝓤 H 𝓣.C 𝓣.Λ passing_code (vptr b.ref_ptr.0 b.ref_ptr.1 ∷ own_slice_val s ∷ []) ((LentTo 𝓛).post passed))
       passes p =
-          qed 𝓛 (raw Got ∷ []) ∵ enter ! 𝓣.C 𝓣.Λ passing_code (vptr b.ptr.0 b.ptr.1 ∷ own_slice_val s ∷ []) _ $
+          qed 𝓛 (raw Got ∷ []) ∵ enter ! 𝓣.C 𝓣.Λ passing_code (vptr b.ref_ptr.0 b.ref_ptr.1 ∷ own_slice_val s ∷ []) _ $
           alloc1 ! (λ l₀. alloc1 ! (λ l₁. alloc1 ! (λ l₂. alloc1 ! (λ l₃. alloc0 ! $ params1 ! $ pass1 ! (init ! 4 refl (tt, tt)) $ pass1 ! (init ! 2 refl ((shr_slice_Lawful 𝓛 (named 1) κ' u8).typed s _ p).0) $ pass0 ! $
           assigns ! (addr ! (from ! (hop ! (look ! 4 refl) (stop !)))) (from ! (stop !)) (init ! 0 refl (tt, tt)) $
           -- The context is [_3; …; _2; …; _1; …; room for _0; …; what the call got].
@@ -233,7 +237,7 @@ module _ (L : Lent) {S R : RattleType} (O : Outcome L S R) (f : Held L → List 
   module _ {M : Type 1} {𝓤 : Ura M} (𝓛 : Logic 𝓤) (𝓜 : Model 𝓤 𝓛.H) (𝓡 : Running 𝓤 𝓛.H 𝓜) (env : Env) where
     open 𝓛 use {H}
 
-    pub passed_meets : (key : Name) → Closed 𝓤 H (tables 𝓤 H 𝓜 𝓡 env).C (tables 𝓤 H 𝓜 𝓡 env).Λ key passing_code
+    pub passed_meets : (key : Callee) → Closed 𝓤 H (tables 𝓤 H 𝓜 𝓡 env).C (tables 𝓤 H 𝓜 𝓡 env).Λ key passing_code
         → (r : Routine) → env callee ≡ r → Triple 𝓤 (𝓡.run r) (LentTo 𝓛) → Triple 𝓤 ((tables 𝓤 H 𝓜 𝓡 env).C key) (LentTo 𝓛)
     passed_meets key closed =
         by_call 𝓛 𝓜 𝓡 env key callee passing_code closed (LentTo 𝓛) (LentTo 𝓛) (passes_on 𝓛)

@@ -4,8 +4,8 @@ use mathlib.Core.Path.{◌≡◌, refl}
 use Prim.Native.Nat.{ℕ}
 use mathlib.Core.List.{[], ◌∷◌, List}
 use seplogic.Ra.Ura.{Ura}
-use seplogic.Ra.TreeShare.{full_share}
-use mir.Syntax.{Name, Width, Fn, named, erased, imm, mut, ty_ref, local, value_local, place, deref, field, copy, rv_opd, addr_of, assign, call, seq, «return»}
+use base.Fraction.{full_share}
+use mir.Syntax.{Callee, Width, Fn, named, erased, imm, mut, ty_ref, local, value_local, place, deref, field, copy, rv_opd, addr_of, assign, call, seq, «return»}
 use mir.Val.{Val, vptr}
 use base.Logic.{SProp, ent, emp, via, fst∗, id⊢}
 use base.Fml.{GName, Lft, Share, ftrue, fat, flft, Fml, fobs, fbor}
@@ -41,7 +41,7 @@ use types.SemTy.{Body}
 use denote.Plain.{UInt}
 
 -- A call that lends a struct, a slice of bytes and a slice of numbers to a form by value, passes a plain value on, and writes the struct that it returns over the lent one.
-module _ (L : Lent) {S R P : RattleType} (O : Outcome L S R) (D : Passed P) (N : Width) (f : Held L → List ℕ → P.Denot → List ℕ → S.Denot) (callee : Name) where
+module _ (L : Lent) {S R P : RattleType} (O : Outcome L S R) (D : Passed P) (N : Width) (f : Held L → List ℕ → P.Denot → List ℕ → S.Denot) (callee : Callee) where
   -- The form by value: its contract.
   abbrev by_value : Ended
   by_value = record {
@@ -72,6 +72,8 @@ module _ (L : Lent) {S R P : RattleType} (O : Outcome L S R) (D : Passed P) (N :
   lent_code = record {
     lifetimes = 3;
     outlives = [];
+    ty_params = [];
+    givens = 0;
     params = 4;
     locals = local O.ty value_local ∷ local (ty_ref (named 0) mut (pointee (Row L).written)) value_local ∷ local (slice_ty (ty_ref (named 1) imm (pointee u8.written))) value_local ∷ local D.ty value_local ∷ local (slice_ty (ty_ref (named 2) imm (pointee (UInt N).written))) value_local ∷ local (τ L) value_local ∷ local (σ O) value_local ∷ [];
     body = seq (assign (place 5 []) (rv_opd (copy (place 1 (deref (τ L) ∷ [])))))
@@ -83,7 +85,7 @@ module _ (L : Lent) {S R P : RattleType} (O : Outcome L S R) (D : Passed P) (N :
   abbrev stayed : Stays lent.signature.params lent.kept
   stayed = (stay_ref (0 ∷ []) tt (plain (λ _. Row L)), (stay_none_slice (1 ∷ []) tt (plain (λ _. u8)) yes, (stay_none (λ _. P) yes, (stay_none_slice (2 ∷ []) tt (plain (λ _. UInt N)) yes, tt))))
 
-  module _ {M : Type 1} {𝓤 : Ura M} (𝓛 : Logic 𝓤) (κ κ' κ'' : Lft) (bounds : AllOutlive 3 [] (κ, (κ', (κ'', tt)))) (q q' q'' : Share) (b o : ℕ) (γ : GName) (h : Held L) (s t : MutBor (List ℕ)) (v : P.Denot) (v-is : Is P v (D.val v ∷ [])) where
+  module _ {M : Type 1} {𝓤 : Ura M} (𝓛 : Logic 𝓤) (κ κ' κ'' : Lft) (bounds : AllOutlive 3 [] (κ, (κ', (κ'', tt)))) (q q' q'' : Share) (b o : ℕ) (γ : GName) (h : Held L) (s t : Bor (List ℕ)) (v : P.Denot) (v-is : Is P v (D.val v ∷ [])) where
     -- The walk's triple, and what it and the callee's contract are taken at.
     open 𝓛 use {H}
 
@@ -140,7 +142,7 @@ module _ (L : Lent) {S R P : RattleType} (O : Outcome L S R) (D : Passed P) (N :
           -- The context is [what the result owns; the other tokens; what the second slice owns; true; what the first owns; the struct's cell; what it owns; the open borrow; obs; auth; room for _6; …; _0; …].
           land ! (from ! (stop !)) (init ! 10 refl (O.typed 𝓛 r w is)) $ rewrite ! 10 (λ (u : Val). ‵ (fat full_share (σ O) l₆ 0 u)) (O.spells r w is) refl $
           assigns ! (of_opd ! (load ! (from ! (fld ! refl (stop !))) (look_in ! 10 (sub ! 0 refl (whole !))))) (from ! (hop ! (look ! 20 refl) (stop !))) (store_raw ! 5 refl (held_typed L 𝓛 (O.held r) (O.held_is r w is))) $
-          assigns ! (of_opd ! (load ! (from ! (fld ! refl (stop !))) (look_in ! 10 (sub ! 1 refl (whole !))))) (from ! (stop !)) (init ! 22 refl (O.Answer-typed 𝓛 (O.answer r) _ (O.answer_is r w is))) $
+          assigns ! (of_opd ! (load ! (from ! (fld ! refl (stop !))) (look_in ! 10 (sub ! 1 refl (whole !))))) (from ! (stop !)) (init ! 22 refl (O.answer_typed 𝓛 (O.answer r) _ (O.answer_is r w is))) $
           -- The borrow is closed at the new struct.
           move ! (5 ∷ 7 ∷ 8 ∷ 9 ∷ []) $ owns_held L ! (O.held r) (O.held_is r w is) $ move ! (1 ∷ 0 ∷ []) $ closes ! tt (Row L) (O.held r) (held_val L (O.held r) ∷ []) b o $
           -- The context is [obs; the borrow; the token; what the result owns; the other tokens; what the second slice owns; true; what the first owns; what the old struct owned; _6; …; _0; …].
@@ -162,7 +164,7 @@ module _ (L : Lent) {S R P : RattleType} (O : Outcome L S R) (D : Passed P) (N :
   module _ {M : Type 1} {𝓤 : Ura M} (𝓛 : Logic 𝓤) (𝓜 : Model 𝓤 𝓛.H) (𝓡 : Running 𝓤 𝓛.H 𝓜) (env : Env) where
     open 𝓛 use {H}
 
-    pub lent_meets_dated : (key : Name) → Closed 𝓤 H (tables 𝓤 H 𝓜 𝓡 env).C (tables 𝓤 H 𝓜 𝓡 env).Λ key lent_code
+    pub lent_meets_dated : (key : Callee) → Closed 𝓤 H (tables 𝓤 H 𝓜 𝓡 env).C (tables 𝓤 H 𝓜 𝓡 env).Λ key lent_code
         → (r : Routine) → env callee ≡ r → Triple 𝓤 (𝓡.run r) (ByValue 𝓛) → Triple 𝓤 ((tables 𝓤 H 𝓜 𝓡 env).C key) (LentTo 𝓛)
     lent_meets_dated key closed = by_walk 𝓛 𝓜 𝓡 env key callee lent_code closed (ByValue 𝓛) lent stayed (lent_says 𝓤) (goes 𝓛) (walks 𝓛)
 
@@ -171,6 +173,8 @@ module _ (L : Lent) {S R P : RattleType} (O : Outcome L S R) (D : Passed P) (N :
   passing_code = record {
     lifetimes = 3;
     outlives = [];
+    ty_params = [];
+    givens = 0;
     params = 4;
     locals = local O.ty value_local ∷ local (ty_ref (named 0) mut (pointee (Row L).written)) value_local ∷ local (slice_ty (ty_ref (named 1) imm (pointee u8.written))) value_local ∷ local D.ty value_local ∷ local (slice_ty (ty_ref (named 2) imm (pointee (UInt N).written))) value_local ∷ local (ty_ref erased mut (pointee (Row L).written)) value_local ∷ [];
     body = seq (assign (place 5 []) (addr_of (place 1 (deref (τ L) ∷ [])))) (seq (call callee (copy (place 5 []) ∷ copy (place 2 []) ∷ copy (place 3 []) ∷ copy (place 4 []) ∷ []) (place 0 [])) «return»);
@@ -179,16 +183,16 @@ module _ (L : Lent) {S R P : RattleType} (O : Outcome L S R) (D : Passed P) (N :
   module _ {M : Type 1} {𝓤 : Ura M} (𝓛 : Logic 𝓤) (𝓣 : Tables 𝓤 𝓛.H) (known : Triple 𝓤 (𝓣.C callee) (LentTo 𝓛)) where
     open 𝓛 use {H}
 
-    module _ (κ κ' κ'' : Lft) (qs : Shares 3) (bounds : AllOutlive 3 [] (κ, (κ', (κ'', tt)))) (b : Bor (Held L)) (s t : Bor (List ℕ)) (v : P.Denot) where
+    module _ (κ κ' κ'' : Lft) (qs : Shares 3) (bounds : AllOutlive 3 [] (κ, (κ', (κ'', tt)))) (b : MutBor (Held L)) (s t : Bor (List ℕ)) (v : P.Denot) where
       abbrev passed : (LentTo 𝓛).Ghost
       passed = (((κ, (κ', (κ'', tt))), qs, bounds, (b, (s, (v, (t, tt)))), (vptr b.ref_ptr.0 b.ref_ptr.1 ∷ [], (own_slice_val s ∷ [], (D.val v ∷ [], (own_slice_val t ∷ [], tt))))), tt)
 
       abbrev Got : SProp 𝓤
       Got = on_entry 𝓛 lent.signature passed.0.0 qs passed.0.3 passed.0.4
 
-      passes : Is (ShrSlice (named 1) κ' u8) s (own_slice_val s ∷ []) → Is P v (D.val v ∷ []) → Is (ShrSlice (named 2) κ'' (UInt N)) t (own_slice_val t ∷ []) → ent 𝓤 Got (WpFn 𝓤 H 𝓣.C 𝓣.Λ passing_code (vptr b.ptr.0 b.ptr.1 ∷ own_slice_val s ∷ D.val v ∷ own_slice_val t ∷ []) ((LentTo 𝓛).post passed))
+      passes : Is (ShrSlice (named 1) κ' u8) s (own_slice_val s ∷ []) → Is P v (D.val v ∷ []) → Is (ShrSlice (named 2) κ'' (UInt N)) t (own_slice_val t ∷ []) → ent 𝓤 Got (WpFn 𝓤 H 𝓣.C 𝓣.Λ passing_code (vptr b.ref_ptr.0 b.ref_ptr.1 ∷ own_slice_val s ∷ D.val v ∷ own_slice_val t ∷ []) ((LentTo 𝓛).post passed))
       passes p v-is p' =
-          qed 𝓛 (raw Got ∷ []) ∵ enter ! 𝓣.C 𝓣.Λ passing_code (vptr b.ptr.0 b.ptr.1 ∷ own_slice_val s ∷ D.val v ∷ own_slice_val t ∷ []) _ $
+          qed 𝓛 (raw Got ∷ []) ∵ enter ! 𝓣.C 𝓣.Λ passing_code (vptr b.ref_ptr.0 b.ref_ptr.1 ∷ own_slice_val s ∷ D.val v ∷ own_slice_val t ∷ []) _ $
           alloc1 ! (λ l₀. alloc1 ! (λ l₁. alloc1 ! (λ l₂. alloc1 ! (λ l₃. alloc1 ! (λ l₄. alloc1 ! (λ l₅. alloc0 ! $ params1 ! $
           pass1 ! (init ! 8 refl (tt, tt)) $ pass1 ! (init ! 6 refl ((shr_slice_Lawful 𝓛 (named 1) κ' u8).typed s _ p).0) $ pass1 ! (init ! 4 refl (D.typed 𝓛 v v-is)) $ pass1 ! (init ! 2 refl ((shr_slice_Lawful 𝓛 (named 2) κ'' (UInt N)).typed t _ p').0) $ pass0 ! $
           assigns ! (addr ! (from ! (hop ! (look ! 8 refl) (stop !)))) (from ! (stop !)) (init ! 0 refl (tt, tt)) $
@@ -197,7 +201,7 @@ module _ (L : Lent) {S R P : RattleType} (O : Outcome L S R) (D : Passed P) (N :
           calls_at ! (fm_of 𝓤 H 𝓛.laws 𝓣) (LentTo 𝓛) known passed (and_then ! (load ! (from ! (stop !)) (look ! 1 refl)) (and_then ! (load ! (from ! (stop !)) (look ! 7 refl)) (and_then ! (load ! (from ! (stop !)) (look ! 5 refl)) (and_then ! (load ! (from ! (stop !)) (look ! 3 refl)) (no_more !))))) (λ w.
           gave ! tt lent (lent_says 𝓤) passed w (λ r is.
           -- The context is [what the result owns; the tokens; what the callee says; _5; …; _4; …; _3; …; _2; …; _1; …; room for _0; …].
-          land ! (from ! (stop !)) (init ! 13 refl (O.Answer-typed 𝓛 r w is)) $
+          land ! (from ! (stop !)) (init ! 13 refl (O.answer_typed 𝓛 r w is)) $
           returns ! (look ! 13 refl) $ forget ! 3 refl $ forget ! 5 refl $ forget ! 7 refl $ forget ! 9 refl $ forget ! 11 refl $ forget ! 13 refl $
           move ! (13 ∷ 14 ∷ []) $ free1 ! $ move ! (11 ∷ 12 ∷ []) $ free1 ! $ move ! (9 ∷ 10 ∷ []) $ free1 ! $ move ! (7 ∷ 8 ∷ []) $ free1 ! $ move ! (5 ∷ 6 ∷ []) $ free1 ! $ move ! (3 ∷ 4 ∷ []) $ free1 ! $ free0 ! $
           by ! (hands_back 𝓛 lent (lent_says 𝓤) passed w r)))))))))
@@ -213,7 +217,7 @@ module _ (L : Lent) {S R P : RattleType} (O : Outcome L S R) (D : Passed P) (N :
   module _ {M : Type 1} {𝓤 : Ura M} (𝓛 : Logic 𝓤) (𝓜 : Model 𝓤 𝓛.H) (𝓡 : Running 𝓤 𝓛.H 𝓜) (env : Env) where
     open 𝓛 use {H}
 
-    pub passed_meets_dated : (key : Name) → Closed 𝓤 H (tables 𝓤 H 𝓜 𝓡 env).C (tables 𝓤 H 𝓜 𝓡 env).Λ key passing_code
+    pub passed_meets_dated : (key : Callee) → Closed 𝓤 H (tables 𝓤 H 𝓜 𝓡 env).C (tables 𝓤 H 𝓜 𝓡 env).Λ key passing_code
         → (r : Routine) → env callee ≡ r → Triple 𝓤 (𝓡.run r) (LentTo 𝓛) → Triple 𝓤 ((tables 𝓤 H 𝓜 𝓡 env).C key) (LentTo 𝓛)
     passed_meets_dated key closed =
         by_call 𝓛 𝓜 𝓡 env key callee passing_code closed (LentTo 𝓛) (LentTo 𝓛) (passes_on 𝓛)

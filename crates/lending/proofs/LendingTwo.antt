@@ -4,8 +4,8 @@ use mathlib.Core.Path.{◌≡◌, refl}
 use Prim.Native.Nat.{ℕ}
 use mathlib.Core.List.{[], ◌∷◌, List}
 use seplogic.Ra.Ura.{Ura}
-use seplogic.Ra.TreeShare.{full_share}
-use mir.Syntax.{Name, Fn, named, imm, mut, ty_ref, local, value_local, place, deref, field, copy, rv_opd, assign, call, seq, «return»}
+use base.Fraction.{full_share}
+use mir.Syntax.{Callee, Fn, named, imm, mut, ty_ref, local, value_local, place, deref, field, copy, rv_opd, assign, call, seq, «return»}
 use mir.Val.{Val, vptr}
 use base.Logic.{ent, emp, via, fst∗, id⊢}
 use base.Fml.{GName, Lft, Share, Fml, ftrue, fat, flft, fobs, fbor}
@@ -25,7 +25,7 @@ use denote.RattleType.{RattleType, owns}
 use denote.Laws.{Is}
 use denote.Memory.{mem, pointee}
 use denote.Builtin.{u8}
-use denote.Ref.{MutBor, MutRef, mut_vals, mut_Tells}
+use denote.Ref.{Bor, MutRef, mut_vals, mut_Tells}
 use denote.Slice.{slice_ty, ShrSlice, shr_slice_vals, shr_slice_Tells, shr_slice_Lawful}
 use denote.Signature.{plain, mut_ref_to, shr_slice_of}
 use denote.Steps.{opens, closes, owned, nothing}
@@ -40,7 +40,7 @@ use Rattle.lending.proofs.Lent.{Lent, Row, τ, Held, held_val, IsHeld, held_type
 use Rattle.lending.proofs.Lending.{Outcome, σ, Wrote}
 
 -- A call that lends a struct and two slices of bytes to a form by value, and writes the struct that it returns over the lent one.
-module _ (L : Lent) {S R : RattleType} (O : Outcome L S R) (f : Held L → List ℕ → List ℕ → S.Denot) (callee : Name) where
+module _ (L : Lent) {S R : RattleType} (O : Outcome L S R) (f : Held L → List ℕ → List ℕ → S.Denot) (callee : Callee) where
   -- The form by value: its contract.
   abbrev by_value : Ended
   by_value = record {
@@ -71,6 +71,8 @@ module _ (L : Lent) {S R : RattleType} (O : Outcome L S R) (f : Held L → List 
   lent_code = record {
     lifetimes = 3;
     outlives = [];
+    ty_params = [];
+    givens = 0;
     params = 3;
     locals = local O.ty value_local ∷ local (ty_ref (named 0) mut (pointee (Row L).written)) value_local ∷ local (slice_ty (ty_ref (named 1) imm (pointee u8.written))) value_local ∷ local (slice_ty (ty_ref (named 2) imm (pointee u8.written))) value_local ∷ local (τ L) value_local ∷ local (σ O) value_local ∷ [];
     body = seq (assign (place 4 []) (rv_opd (copy (place 1 (deref (τ L) ∷ [])))))
@@ -82,7 +84,7 @@ module _ (L : Lent) {S R : RattleType} (O : Outcome L S R) (f : Held L → List 
   abbrev stayed : Stays lent.signature.params lent.kept
   stayed = (stay_ref (0 ∷ []) tt (plain (λ _. Row L)), (stay_none_slice (1 ∷ []) tt (plain (λ _. u8)) yes, (stay_none_slice (2 ∷ []) tt (plain (λ _. u8)) yes, tt)))
 
-  module _ {M : Type 1} {𝓤 : Ura M} (𝓛 : Logic 𝓤) (κ κ' κ'' : Lft) (bounds : AllOutlive 3 [] (κ, (κ', (κ'', tt)))) (q q' q'' : Share) (b o : ℕ) (γ : GName) (h : Held L) (s t : MutBor (List ℕ)) where
+  module _ {M : Type 1} {𝓤 : Ura M} (𝓛 : Logic 𝓤) (κ κ' κ'' : Lft) (bounds : AllOutlive 3 [] (κ, (κ', (κ'', tt)))) (q q' q'' : Share) (b o : ℕ) (γ : GName) (h : Held L) (s t : Bor (List ℕ)) where
     -- The walk's triple, and what it and the callee's contract are taken at.
     open 𝓛 use {H}
 
@@ -138,7 +140,7 @@ module _ (L : Lent) {S R : RattleType} (O : Outcome L S R) (f : Held L → List 
           -- The context is [what the result owns; the other tokens; what the second slice owns; true; what the first owns; the struct's cell; what it owns; the open borrow; obs; auth; room for _5; …; _0; …].
           land ! (from ! (stop !)) (init ! 10 refl (O.typed 𝓛 r w is)) $ rewrite ! 10 (λ (u : Val). ‵ (fat full_share (σ O) l₅ 0 u)) (O.spells r w is) refl $
           assigns ! (of_opd ! (load ! (from ! (fld ! refl (stop !))) (look_in ! 10 (sub ! 0 refl (whole !))))) (from ! (hop ! (look ! 18 refl) (stop !))) (store_raw ! 5 refl (held_typed L 𝓛 (O.held r) (O.held_is r w is))) $
-          assigns ! (of_opd ! (load ! (from ! (fld ! refl (stop !))) (look_in ! 10 (sub ! 1 refl (whole !))))) (from ! (stop !)) (init ! 20 refl (O.Answer-typed 𝓛 (O.answer r) _ (O.answer_is r w is))) $
+          assigns ! (of_opd ! (load ! (from ! (fld ! refl (stop !))) (look_in ! 10 (sub ! 1 refl (whole !))))) (from ! (stop !)) (init ! 20 refl (O.answer_typed 𝓛 (O.answer r) _ (O.answer_is r w is))) $
           -- The borrow is closed at the new struct.
           move ! (5 ∷ 7 ∷ 8 ∷ 9 ∷ []) $ owns_held L ! (O.held r) (O.held_is r w is) $ move ! (1 ∷ 0 ∷ []) $ closes ! tt (Row L) (O.held r) (held_val L (O.held r) ∷ []) b o $
           -- The context is [obs; the borrow; the token; what the result owns; the other tokens; what the second slice owns; true; what the first owns; what the old struct owned; _5; …; _0; …].
@@ -160,6 +162,6 @@ module _ (L : Lent) {S R : RattleType} (O : Outcome L S R) (f : Held L → List 
   module _ {M : Type 1} {𝓤 : Ura M} (𝓛 : Logic 𝓤) (𝓜 : Model 𝓤 𝓛.H) (𝓡 : Running 𝓤 𝓛.H 𝓜) (env : Env) where
     open 𝓛 use {H}
 
-    pub lent_meets_two : (key : Name) → Closed 𝓤 H (tables 𝓤 H 𝓜 𝓡 env).C (tables 𝓤 H 𝓜 𝓡 env).Λ key lent_code
+    pub lent_meets_two : (key : Callee) → Closed 𝓤 H (tables 𝓤 H 𝓜 𝓡 env).C (tables 𝓤 H 𝓜 𝓡 env).Λ key lent_code
         → (r : Routine) → env callee ≡ r → Triple 𝓤 (𝓡.run r) (ByValue 𝓛) → Triple 𝓤 ((tables 𝓤 H 𝓜 𝓡 env).C key) (LentTo 𝓛)
     lent_meets_two key closed = by_walk 𝓛 𝓜 𝓡 env key callee lent_code closed (ByValue 𝓛) lent stayed (lent_says 𝓤) (goes 𝓛) (walks 𝓛)

@@ -6,10 +6,10 @@ use mathlib.Core.List.{[], ◌∷◌, List}
 use lib.Dec.{T}
 use lib.ListN.{length}
 use seplogic.Ra.Ura.{Ura}
-use mir.Syntax.{Name, Ty, Fn, Lifetime, Width, w8, w64, ty_int}
+use mir.Syntax.{Callee, Ty, Fn, Lifetime, Width, w8, w64, ty_int}
 use mir.Val.{Val, vint, WT, has_ty}
 use base.Logic.{ent, sep, emp, via, snd∗, ex_e, id⊢}
-use base.Fml.{Lft, Share, Fml, ftrue, fsep, flft, fobor, fshr_bor}
+use base.Fml.{Lft, Share, Fml, ftrue, fsep, flft}
 use prog.Model.{Model}
 use prog.Routine.{Routine, Env}
 use prog.Wp.{Calls, Loops, WpFn, Closed, Tables}
@@ -21,8 +21,9 @@ use types.Kit.{Goal, Soaks, Seq, Step, Item, ‵, raw, ⋆, ◌⊛◌, some, lat
 use sound.WpLaws.{FmC, fm_of, WpFn-mono}
 use denote.RattleType.{RattleType}
 use denote.Laws.{Is, Tells, Makes, shows}
-use denote.Memory.{cell_at, part_at}
-use denote.Plain.{UInt, uint_Tells, uint_Lawful, uint_Makes}
+use denote.Memory.{cell_at, part_at, hidden_shr}
+use denote.Opens.{Shut}
+use denote.Plain.{UInt, uint_Tells, uint_Lawful, uint_Makes, uint_row_laws}
 use denote.Builtin.{usize}
 use denote.Ref.{Bor}
 use denote.Slice.{slice_val, ShrSlice, shr_slice_copy}
@@ -85,10 +86,10 @@ module _ (L : Lent) where
   module _ {M : Type 1} {𝓤 : Ura M} {𝓛 : Logic 𝓤} {K : Type 0} {Γ : List (Item 𝓤)} {G : Goal 𝓤 𝓛.H} where
     -- A `&` to the struct is looked into.
     pub looks_held : K → Soaks G → {κ : Lft} {q : Share} (h : Held) (b o : ℕ)
-        → ((q' : Share) → IsHeld h → Seq K 𝓛 (‵ (cell_at q' Row.mir (held_val h ∷ []) b o) ∷ ‵ (Row.own_val h (held_val h ∷ [])) ∷ ‵ (fobor κ q (part_at Row q' h b o)) ∷ ‵ (fshr_bor κ (λ s. part_at Row s h b o)) ∷ Γ) G)
-        → Seq K 𝓛 (‵ (fshr_bor κ (λ s. part_at Row s h b o)) ∷ ‵ (flft κ q) ∷ Γ) G
+        → ((q' : Share) → IsHeld h → Seq K 𝓛 (‵ (cell_at q' Row.mir (held_val h ∷ []) b o) ∷ ‵ (Row.own_val h (held_val h ∷ [])) ∷ Shut 𝓛 κ q (part_at Row q' h b o) ∷ ‵ (hidden_shr Row κ h b o) ∷ Γ) G)
+        → Seq K 𝓛 (‵ (hidden_shr Row κ h b o) ∷ ‵ (flft κ q) ∷ Γ) G
     looks_held t z h b o k =
-        looks t z Row (Is Row) (shows 𝓛 Row) (LL.vals L.type L.laws) (LL.tells L.type L.laws) (LL.copy L.type L.copies 𝓛) h b o (λ q' vs. spells_held t q' h vs b o (k q'))
+        looks t z Row (LL.copied L.type L.copies 𝓛).opens h b o (λ q' vs. spells_held t q' h vs b o (k q'))
 
 -- A plain value that is passed on: its machine type and value, what stands for it, that what it owns is had for nothing, and that nothing is left of it at exit.
 pub record Passed (P : RattleType) : Type 2 where
@@ -153,7 +154,7 @@ OwnSlice = OwnNumbers w8
 module _ {M : Type 1} {𝓤 : Ura M} {𝓛 : Logic 𝓤} {K : Type 0} {Γ : List (Item 𝓤)} {G : Goal 𝓤 𝓛.H} where
   pub numbers_twice : K → (w : Width) (ℓ : Lifetime) (κ : Lft) (s : Bor (List ℕ)) → Step K 𝓛 (‵ (OwnNumbers w ℓ κ s) ∷ ‵ (OwnNumbers w ℓ κ s) ∷ Γ) G (‵ (OwnNumbers w ℓ κ s) ∷ Γ) G
   numbers_twice t w ℓ κ s =
-      cut (‵ (OwnNumbers w ℓ κ s) ∷ []) (‵ (OwnNumbers w ℓ κ s) ∷ ‵ (OwnNumbers w ℓ κ s) ∷ []) Γ ((shr_slice_copy 𝓛 ℓ κ (UInt w)).twice s (own_slice_val s ∷ []))
+      cut (‵ (OwnNumbers w ℓ κ s) ∷ []) (‵ (OwnNumbers w ℓ κ s) ∷ ‵ (OwnNumbers w ℓ κ s) ∷ []) Γ ((shr_slice_copy 𝓛 ℓ κ (UInt w) (uint_row_laws w)).twice s (own_slice_val s ∷ []))
 
   pub slice_twice : K → (ℓ : Lifetime) (κ : Lft) (s : Bor (List ℕ)) → Step K 𝓛 (‵ (OwnSlice ℓ κ s) ∷ ‵ (OwnSlice ℓ κ s) ∷ Γ) G (‵ (OwnSlice ℓ κ s) ∷ Γ) G
   slice_twice t = numbers_twice t w8
@@ -193,7 +194,7 @@ hands_back {𝓤 = 𝓤} 𝓛 E c y w r =
 module _ {M : Type 1} {𝓤 : Ura M} (𝓛 : Logic 𝓤) (𝓜 : Model 𝓤 𝓛.H) (𝓡 : Running 𝓤 𝓛.H 𝓜) where
   open 𝓛 use {H}
 
-  module _ (env : Env) (key callee : Name) (f : Fn) (closed : Closed 𝓤 H (tables 𝓤 H 𝓜 𝓡 env).C (tables 𝓤 H 𝓜 𝓡 env).Λ key f) (D : Contract 𝓤) where
+  module _ (env : Env) (key callee : Callee) (f : Fn) (closed : Closed 𝓤 H (tables 𝓤 H 𝓜 𝓡 env).C (tables 𝓤 H 𝓜 𝓡 env).Λ key f) (D : Contract 𝓤) where
     pub by_call : (D' : Contract 𝓤) → ((𝓣 : Tables 𝓤 H) → Triple 𝓤 (𝓣.C callee) D → Triple 𝓤 (WpFn 𝓤 H 𝓣.C 𝓣.Λ f) D') → (r : Routine) → env callee ≡ r → Triple 𝓤 (𝓡.run r) D → Triple 𝓤 ((tables 𝓤 H 𝓜 𝓡 env).C key) D'
     unfolding tables_of
     by_call D' walk r means met = entered 𝓤 H D' (tables 𝓤 H 𝓜 𝓡 env).C (tables 𝓤 H 𝓜 𝓡 env).Λ key f closed (walk (tables_of 𝓤 H 𝓜 (tables 𝓤 H 𝓜 𝓡 env)) (cited 𝓤 H D 𝓜 𝓡 env callee r means met))

@@ -5,10 +5,10 @@ use Prim.Native.Nat.{ℕ}
 use mathlib.Core.List.{[], ◌∷◌, List}
 use lib.Dec.{T}
 use seplogic.Ra.Ura.{Ura}
-use mir.Syntax.{Name, Ty, Fn, named, imm, ty_ref, local, value_local, place, deref, copy, rv_opd, assign, call, seq, «return»}
+use mir.Syntax.{Callee, Ty, Fn, named, imm, ty_ref, local, value_local, place, deref, copy, rv_opd, assign, call, seq, «return»}
 use mir.Val.{Val, vptr, WT, has_ty}
 use base.Logic.{SProp, ent, sep, emp, via, fst∗, id⊢}
-use base.Fml.{GName, Lft, Share, Fml, ftrue, fsep, flft, fres, fshr_bor}
+use base.Fml.{GName, Lft, Share, Fml, ftrue, fsep, flft}
 use prog.Model.{Model}
 use prog.Routine.{Routine, Env}
 use prog.Wp.{Calls, Loops, WpFn, Closed, Tables}
@@ -16,12 +16,12 @@ use types.Logic.{Logic, sem}
 use contract.Lifetimes.{Shares}
 use contract.Monad.{fact}
 use contract.Running.{Running, tables}
-use types.Kit.{Item, ‵, raw, ⋆, ◌⊛◌, ◌$◌, ◌∵◌, !, qed, by, move, keep, drop, use0, use2, split, join, fsplit, fsplit3, fjoin, fjoin3, feq_i, suffices, frame, done}
+use types.Kit.{Item, ‵, raw, ⋆, ◌⊛◌, ◌$◌, ◌∵◌, !, qed, by, move, keep, drop, use0, use2, split, join, fsplit, fjoin, feq_i, suffices, frame, done}
 use types.Run.{look, look_raw, init, forget, stop, hop, from, load, of_opd, and_then, no_more, assigns, land, returns, enter, alloc1, alloc0, params1, pass1, pass0, free1, free0}
 use sound.WpLaws.{FmC, fm_of}
 use denote.RattleType.{RattleType, owns, flat}
 use denote.Laws.{Is}
-use denote.Memory.{part_at, pointee}
+use denote.Memory.{hidden_shr, pointee}
 use denote.Ref.{Bor, ShrRef, shr_vals, shr_Tells}
 use denote.Signature.{types_at, plain, shr_ref_to}
 use denote.Steps.{said, shuts, nothing}
@@ -41,7 +41,7 @@ pub record Returned (R : RattleType) : Type 2 where
 
 -- What a walk has at its end: the token, the lent struct and the result.
 abbrev Left : (L : Lent) {M : Type 1} (𝓤 : Ura M) (R : RattleType) → Lft → Share → ℕ → ℕ → GName → Held L → R.Denot → Val → List (Item 𝓤)
-Left L 𝓤 R κ q b o γ h r w = ‵ (flft κ q) ∷ ‵ (fres γ ((Row L).coded.code h)) ∷ ‵ (fshr_bor κ (λ s. part_at (Row L) s h b o)) ∷ ‵ (R.own_val r (w ∷ [])) ∷ []
+Left L 𝓤 R κ q b o γ h r w = ‵ (flft κ q) ∷ ‵ (hidden_shr (Row L) κ h b o) ∷ ‵ (R.own_val r (w ∷ [])) ∷ []
 
 -- F is what the values own that are passed on: it is had for nothing, so what the callee asks for is had, and what the call gives back.
 module _ (L : Lent) {M : Type 1} {𝓤 : Ura M} (𝓛 : Logic 𝓤) (F : Fml) (free : ent 𝓤 (emp 𝓤) (sem 𝓛 F)) (h : Held L) where
@@ -53,10 +53,10 @@ module _ (L : Lent) {M : Type 1} {𝓤 : Ura M} (𝓛 : Logic 𝓤) (F : Fml) (f
   gives_back : (R : RattleType) (κ : Lft) (q : Share) (b o : ℕ) (γ : GName) (r : R.Denot) (w : Val)
       → ent 𝓤 (⋆ 𝓛 (Left L 𝓤 R κ q b o γ h r w)) (sep 𝓤 (sep 𝓤 (A.lft κ q) (emp 𝓤)) (sep 𝓤 (sem 𝓛 (fsep ((ShrRef (named 0) κ (Row L)).own_val (record { ref_ptr = (b, o); now = h }) (vptr b o ∷ [])) F)) (sem 𝓛 (R.own_val r (w ∷ [])))))
   gives_back R κ q b o γ r w =
-      qed 𝓛 (Left L 𝓤 R κ q b o γ h r w) ∵ nothing ! $ move ! (1 ∷ 0 ∷ []) $ join ! $ frame ! $ feq_i ! (List Val) (vptr b o ∷ []) (vptr b o ∷ []) refl $ fjoin3 ! $ use0 𝓛 (‵ F) free $ move ! (1 ∷ 0 ∷ []) $ fjoin ! $ frame ! $ done !
+      qed 𝓛 (Left L 𝓤 R κ q b o γ h r w) ∵ nothing ! $ move ! (1 ∷ 0 ∷ []) $ join ! $ frame ! $ feq_i ! (List Val) (vptr b o ∷ []) (vptr b o ∷ []) refl $ fjoin ! $ use0 𝓛 (‵ F) free $ move ! (1 ∷ 0 ∷ []) $ fjoin ! $ frame ! $ done !
 
 -- A call that lends a struct to a form by value; `Says` is what both promise of the struct and a result.
-module _ (L : Lent) {R : RattleType} (O : Returned R) (Says : Held L → R.Denot → Type 0) (callee : Name) where
+module _ (L : Lent) {R : RattleType} (O : Returned R) (Says : Held L → R.Denot → Type 0) (callee : Callee) where
   -- The form by value: its contract.
   abbrev by_value : Ended
   by_value = record { signature = record { lifetimes = 0; outlives = []; params = plain (λ _. Row L) ∷ []; result = plain (λ _. R) }; kept = (yes, tt) }
@@ -78,6 +78,8 @@ module _ (L : Lent) {R : RattleType} (O : Returned R) (Says : Held L → R.Denot
   looking_code = record {
     lifetimes = 1;
     outlives = [];
+    ty_params = [];
+    givens = 0;
     params = 1;
     locals = local O.ty value_local ∷ local (ty_ref (named 0) imm (pointee (Row L).written)) value_local ∷ local (τ L) value_local ∷ [];
     body = seq (assign (place 2 []) (rv_opd (copy (place 1 (deref (τ L) ∷ []))))) (seq (call callee (copy (place 2 []) ∷ []) (place 0 [])) «return»);
@@ -108,23 +110,23 @@ module _ (L : Lent) {R : RattleType} (O : Returned R) (Says : Held L → R.Denot
       walk =
           qed 𝓛 ((‵ (flft κ q) ⊛ ‵ ftrue) ∷ ‵ (owns (ShrRef (named 0) κ (Row L) ∷ []) lent.0.3 lent.0.4) ∷ []) ∵ enter ! C Λ looking_code (vptr b o ∷ []) _ $
           alloc1 ! (λ l₀. alloc1 ! (λ l₁. alloc1 ! (λ l₂. alloc0 ! $ params1 ! $ pass1 ! (init ! 2 refl (tt, tt)) $ pass0 ! $
-          move ! (7 ∷ []) $ fsplit ! $ fsplit3 ! $ drop ! $ move ! (9 ∷ []) $ split ! $ move ! (3 ∷ 0 ∷ []) $
+          move ! (7 ∷ []) $ fsplit ! $ fsplit ! $ drop ! $ move ! (8 ∷ []) $ split ! $ move ! (2 ∷ 0 ∷ []) $
           looks_held L ! tt h b o (λ q₁ was.
-          -- The context is [a share of the struct's cell; what it owns; what shuts it; the fractured borrow; true; res; true; _2; …; _1; …; room for _0; …].
-          assigns ! (of_opd ! (load ! (from ! (hop ! (look ! 9 refl) (stop !))) (look_raw ! 0 refl))) (from ! (stop !)) (init ! 7 refl (held_typed L 𝓛 h was)) $
+          -- The context is [a share of the struct's cell; what it owns; what shuts it; the fractured borrow; true; true; _2; …; _1; …; room for _0; …].
+          assigns ! (of_opd ! (load ! (from ! (hop ! (look ! 8 refl) (stop !))) (look_raw ! 0 refl))) (from ! (stop !)) (init ! 6 refl (held_typed L 𝓛 h was)) $
           shuts ! tt (Row L) q₁ h (held_val L h ∷ []) b o $
-          -- The context is [the token; the fractured borrow; true; res; true; _2; …; _1; …; room for _0; …].
+          -- The context is [the token; the fractured borrow; true; true; _2; …; _1; …; room for _0; …].
           use0 𝓛 (raw ((ByValue 𝓛).pre copied)) (goes_in L 𝓛 ftrue (id⊢ 𝓤 (emp 𝓤)) h was) $
-          calls_at ! fm (ByValue 𝓛) known copied (and_then ! (load ! (from ! (stop !)) (look ! 6 refl)) (no_more !)) (λ w.
+          calls_at ! fm (ByValue 𝓛) known copied (and_then ! (load ! (from ! (stop !)) (look ! 5 refl)) (no_more !)) (λ w.
           answered ! tt by_value (by_value_says 𝓤) copied w (λ r. Says h r) (λ r e. id⊢ 𝓤 (fact 𝓤 (Says h r))) (λ r e is.
-          -- The context is [what the result owns; true; the token; the fractured borrow; true; res; true; _2; …; _1; …; room for _0; …].
-          land ! (from ! (stop !)) (init ! 11 refl (O.typed 𝓛 r w is)) $
-          returns ! (look ! 11 refl) $ forget ! 7 refl $ forget ! 9 refl $ forget ! 11 refl $
-          move ! (11 ∷ 12 ∷ []) $ free1 ! $ move ! (9 ∷ 10 ∷ []) $ free1 ! $ move ! (7 ∷ 8 ∷ []) $ free1 ! $ free0 ! $
-          keep ! (2 ∷ 5 ∷ 3 ∷ 0 ∷ []) $ by ! (exits r w e)))))))
+          -- The context is [what the result owns; true; the token; the fractured borrow; true; true; _2; …; _1; …; room for _0; …].
+          land ! (from ! (stop !)) (init ! 10 refl (O.typed 𝓛 r w is)) $
+          returns ! (look ! 10 refl) $ forget ! 6 refl $ forget ! 8 refl $ forget ! 10 refl $
+          move ! (10 ∷ 11 ∷ []) $ free1 ! $ move ! (8 ∷ 9 ∷ []) $ free1 ! $ move ! (6 ∷ 7 ∷ []) $ free1 ! $ free0 ! $
+          keep ! (2 ∷ 3 ∷ 0 ∷ []) $ by ! (exits r w e)))))))
 
   -- It meets its contract where the form by value meets its own.
-  module _ {M : Type 1} {𝓤 : Ura M} (𝓛 : Logic 𝓤) (𝓜 : Model 𝓤 𝓛.H) (𝓡 : Running 𝓤 𝓛.H 𝓜) (env : Env) (key : Name) where
+  module _ {M : Type 1} {𝓤 : Ura M} (𝓛 : Logic 𝓤) (𝓜 : Model 𝓤 𝓛.H) (𝓡 : Running 𝓤 𝓛.H 𝓜) (env : Env) (key : Callee) where
     open 𝓛 use {H}
 
     pub looking_meets : Closed 𝓤 H (tables 𝓤 H 𝓜 𝓡 env).C (tables 𝓤 H 𝓜 𝓡 env).Λ key looking_code → (r : Routine) → env callee ≡ r → Triple 𝓤 (𝓡.run r) (ByValue 𝓛)
@@ -135,7 +137,7 @@ module _ (L : Lent) {R : RattleType} (O : Returned R) (Says : Held L → R.Denot
         (λ κs qs bounds a g are. via 𝓤 _ (fst∗ 𝓤 _ (emp 𝓤)) (walk 𝓛 κs.0 qs.0 a.0.ref_ptr.0 a.0.ref_ptr.1 0 a.0.now C Λ fm known)))
 
 -- A call that lends a struct to a form by value, and passes a plain value on.
-module _ (L : Lent) {R P : RattleType} (O : Returned R) (D : Passed P) (f : Held L → P.Denot → R.Denot) (callee : Name) where
+module _ (L : Lent) {R P : RattleType} (O : Returned R) (D : Passed P) (f : Held L → P.Denot → R.Denot) (callee : Callee) where
   -- The form by value: its contract.
   abbrev by_value_at : Ended
   by_value_at = record { signature = record { lifetimes = 0; outlives = []; params = plain (λ _. Row L) ∷ plain (λ _. P) ∷ []; result = plain (λ _. R) }; kept = (yes, (yes, tt)) }
@@ -157,6 +159,8 @@ module _ (L : Lent) {R P : RattleType} (O : Returned R) (D : Passed P) (f : Held
   looking_at_code = record {
     lifetimes = 1;
     outlives = [];
+    ty_params = [];
+    givens = 0;
     params = 2;
     locals = local O.ty value_local ∷ local (ty_ref (named 0) imm (pointee (Row L).written)) value_local ∷ local D.ty value_local ∷ local (τ L) value_local ∷ [];
     body = seq (assign (place 3 []) (rv_opd (copy (place 1 (deref (τ L) ∷ []))))) (seq (call callee (copy (place 3 []) ∷ copy (place 2 []) ∷ []) (place 0 [])) «return»);
@@ -188,23 +192,23 @@ module _ (L : Lent) {R P : RattleType} (O : Returned R) (D : Passed P) (f : Held
       walk_at =
           qed 𝓛 ((‵ (flft κ q) ⊛ ‵ ftrue) ∷ ‵ (owns (ShrRef (named 0) κ (Row L) ∷ P ∷ []) lent_at.0.3 lent_at.0.4) ∷ []) ∵ enter ! C Λ looking_at_code (vptr b o ∷ D.val v ∷ []) _ $
           alloc1 ! (λ l₀. alloc1 ! (λ l₁. alloc1 ! (λ l₂. alloc1 ! (λ l₃. alloc0 ! $ params1 ! $ pass1 ! (init ! 4 refl (tt, tt)) $ pass1 ! (init ! 2 refl (D.typed 𝓛 v v-is)) $ pass0 ! $
-          move ! (9 ∷ []) $ fsplit ! $ fsplit3 ! $ drop ! $ move ! (11 ∷ []) $ split ! $ move ! (3 ∷ 0 ∷ []) $
+          move ! (9 ∷ []) $ fsplit ! $ fsplit ! $ drop ! $ move ! (10 ∷ []) $ split ! $ move ! (2 ∷ 0 ∷ []) $
           looks_held L ! tt h b o (λ q₁ was.
-          -- The context is [a share of the struct's cell; what it owns; what shuts it; the fractured borrow; true; res; what the value owns; _3; …; _2; …; _1; …; room for _0; …].
-          assigns ! (of_opd ! (load ! (from ! (hop ! (look ! 11 refl) (stop !))) (look_raw ! 0 refl))) (from ! (stop !)) (init ! 7 refl (held_typed L 𝓛 h was)) $
+          -- The context is [a share of the struct's cell; what it owns; what shuts it; the fractured borrow; true; what the value owns; _3; …; _2; …; _1; …; room for _0; …].
+          assigns ! (of_opd ! (load ! (from ! (hop ! (look ! 10 refl) (stop !))) (look_raw ! 0 refl))) (from ! (stop !)) (init ! 6 refl (held_typed L 𝓛 h was)) $
           shuts ! tt (Row L) q₁ h (held_val L h ∷ []) b o $
-          -- The context is [the token; the fractured borrow; true; res; what the value owns; _3; …; _2; …; _1; …; room for _0; …].
+          -- The context is [the token; the fractured borrow; true; what the value owns; _3; …; _2; …; _1; …; room for _0; …].
           use0 𝓛 (raw ((ByValueAt 𝓛).pre copied_at)) (goes_in L 𝓛 (OwnPassed D v) (makes_passed 𝓛 D v v-is) h was) $
-          calls_at ! fm (ByValueAt 𝓛) known copied_at (and_then ! (load ! (from ! (stop !)) (look ! 6 refl)) (and_then ! (load ! (from ! (stop !)) (look ! 8 refl)) (no_more !))) (λ w.
+          calls_at ! fm (ByValueAt 𝓛) known copied_at (and_then ! (load ! (from ! (stop !)) (look ! 5 refl)) (and_then ! (load ! (from ! (stop !)) (look ! 7 refl)) (no_more !))) (λ w.
           answered ! tt by_value_at (by_value_at_says 𝓤) copied_at w (λ r. r ≡ f h v) (λ r e. id⊢ 𝓤 (fact 𝓤 (r ≡ f h v))) (λ r e is.
-          -- The context is [what the result owns; true; the token; the fractured borrow; true; res; what the value owns; _3; …; _2; …; _1; …; room for _0; …].
-          land ! (from ! (stop !)) (init ! 13 refl (O.typed 𝓛 r w is)) $
-          returns ! (look ! 13 refl) $ forget ! 7 refl $ forget ! 9 refl $ forget ! 11 refl $ forget ! 13 refl $
-          move ! (13 ∷ 14 ∷ []) $ free1 ! $ move ! (11 ∷ 12 ∷ []) $ free1 ! $ move ! (9 ∷ 10 ∷ []) $ free1 ! $ move ! (7 ∷ 8 ∷ []) $ free1 ! $ free0 ! $
-          keep ! (2 ∷ 5 ∷ 3 ∷ 0 ∷ []) $ by ! (exits_at r w e))))))))
+          -- The context is [what the result owns; true; the token; the fractured borrow; true; what the value owns; _3; …; _2; …; _1; …; room for _0; …].
+          land ! (from ! (stop !)) (init ! 12 refl (O.typed 𝓛 r w is)) $
+          returns ! (look ! 12 refl) $ forget ! 6 refl $ forget ! 8 refl $ forget ! 10 refl $ forget ! 12 refl $
+          move ! (12 ∷ 13 ∷ []) $ free1 ! $ move ! (10 ∷ 11 ∷ []) $ free1 ! $ move ! (8 ∷ 9 ∷ []) $ free1 ! $ move ! (6 ∷ 7 ∷ []) $ free1 ! $ free0 ! $
+          keep ! (2 ∷ 3 ∷ 0 ∷ []) $ by ! (exits_at r w e))))))))
 
   -- It meets its contract where the form by value meets its own.
-  module _ {M : Type 1} {𝓤 : Ura M} (𝓛 : Logic 𝓤) (𝓜 : Model 𝓤 𝓛.H) (𝓡 : Running 𝓤 𝓛.H 𝓜) (env : Env) (key : Name) where
+  module _ {M : Type 1} {𝓤 : Ura M} (𝓛 : Logic 𝓤) (𝓜 : Model 𝓤 𝓛.H) (𝓡 : Running 𝓤 𝓛.H 𝓜) (env : Env) (key : Callee) where
     open 𝓛 use {H}
 
     pub looking_at_meets : Closed 𝓤 H (tables 𝓤 H 𝓜 𝓡 env).C (tables 𝓤 H 𝓜 𝓡 env).Λ key looking_at_code → (r : Routine) → env callee ≡ r → Triple 𝓤 (𝓡.run r) (ByValueAt 𝓛)
@@ -223,6 +227,8 @@ module _ (L : Lent) {R P : RattleType} (O : Returned R) (D : Passed P) (f : Held
   passing_code = record {
     lifetimes = 1;
     outlives = [];
+    ty_params = [];
+    givens = 0;
     params = 2;
     locals = local O.ty value_local ∷ local (ty_ref (named 0) imm (pointee (Row L).written)) value_local ∷ local D.ty value_local ∷ [];
     body = seq (call callee (copy (place 1 []) ∷ copy (place 2 []) ∷ []) (place 0 [])) «return»;
@@ -238,9 +244,9 @@ module _ (L : Lent) {R P : RattleType} (O : Returned R) (D : Passed P) (f : Held
       abbrev Got : SProp 𝓤
       Got = on_entry 𝓛 looking_at.signature (κ, tt) qs passed.0.3 passed.0.4
 
-      passes : Is P v (D.val v ∷ []) → ent 𝓤 Got (WpFn 𝓤 H 𝓣.C 𝓣.Λ passing_code (vptr b.ptr.0 b.ptr.1 ∷ D.val v ∷ []) ((LookingAt 𝓛).post passed))
+      passes : Is P v (D.val v ∷ []) → ent 𝓤 Got (WpFn 𝓤 H 𝓣.C 𝓣.Λ passing_code (vptr b.ref_ptr.0 b.ref_ptr.1 ∷ D.val v ∷ []) ((LookingAt 𝓛).post passed))
       passes v-is =
-          qed 𝓛 (raw Got ∷ []) ∵ enter ! 𝓣.C 𝓣.Λ passing_code (vptr b.ptr.0 b.ptr.1 ∷ D.val v ∷ []) _ $
+          qed 𝓛 (raw Got ∷ []) ∵ enter ! 𝓣.C 𝓣.Λ passing_code (vptr b.ref_ptr.0 b.ref_ptr.1 ∷ D.val v ∷ []) _ $
           alloc1 ! (λ l₀. alloc1 ! (λ l₁. alloc1 ! (λ l₂. alloc0 ! $ params1 ! $ pass1 ! (init ! 2 refl (tt, tt)) $ pass1 ! (init ! 0 refl (D.typed 𝓛 v v-is)) $ pass0 ! $
           -- The context is [_2; …; _1; …; room for _0; …; what the call got].
           nothing ! $ move ! (7 ∷ 0 ∷ []) $ use2 𝓛 (raw ((LookingAt 𝓛).pre passed)) (id⊢ 𝓤 _) $
@@ -260,7 +266,7 @@ module _ (L : Lent) {R P : RattleType} (O : Returned R) (D : Passed P) (f : Held
         (λ are. passes y.0.0.0 y.0.1 y.0.3.0 y.0.3.1.0 are.1.0))
 
   -- It meets the same contract.
-  module _ {M : Type 1} {𝓤 : Ura M} (𝓛 : Logic 𝓤) (𝓜 : Model 𝓤 𝓛.H) (𝓡 : Running 𝓤 𝓛.H 𝓜) (env : Env) (key : Name) where
+  module _ {M : Type 1} {𝓤 : Ura M} (𝓛 : Logic 𝓤) (𝓜 : Model 𝓤 𝓛.H) (𝓡 : Running 𝓤 𝓛.H 𝓜) (env : Env) (key : Callee) where
     open 𝓛 use {H}
 
     pub passed_at_meets : Closed 𝓤 H (tables 𝓤 H 𝓜 𝓡 env).C (tables 𝓤 H 𝓜 𝓡 env).Λ key passing_code → (r : Routine) → env callee ≡ r → Triple 𝓤 (𝓡.run r) (LookingAt 𝓛) → Triple 𝓤 ((tables 𝓤 H 𝓜 𝓡 env).C key) (LookingAt 𝓛)

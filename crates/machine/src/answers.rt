@@ -4,7 +4,7 @@ use crate::units::{Cents, Seconds};
 
 // What a command answers: the refusal, or 0; what it paid to each side; the chain steps; the fee that the desk kept of the merchant's payment.
 #[repr(C)]
-#[derive(Drop)]
+#[derive(Clone, Copy)]
 pub struct Answer {
     pub customer: Cents,
     pub merchant: Cents,
@@ -14,35 +14,35 @@ pub struct Answer {
 }
 
 // What the checks made so far come to.
-#[derive(Drop)]
+#[derive(Clone, Copy)]
 pub struct Judged {
     pub refusal: u32,
     pub steps: u32,
 }
 
 // The same after a signature check, and the leaf that it handed back: 0 where it was not made.
-#[derive(Drop)]
+#[derive(Clone, Copy)]
 pub struct Sealed {
     pub judged: Judged,
     pub leaf: u32,
 }
 
 // What a command makes of its channel, and its answer.
-#[derive(Drop)]
+#[derive(Clone, Copy)]
 pub struct Ruled {
     pub channel: Channel,
     pub answer: Answer,
 }
 
 // What a command makes of the book, and its answer.
-#[derive(Drop)]
+#[derive(Clone, Copy)]
 pub struct Stepped {
     pub book: Book,
     pub answer: Answer,
 }
 
 // What an opening makes of the lent book, and the refusal, or 0.
-#[derive(Drop)]
+#[derive(Clone, Copy)]
 pub struct Opened {
     pub book: Book,
     pub refusal: u32,
@@ -50,7 +50,7 @@ pub struct Opened {
 
 // What a reading of one channel gives.
 #[repr(C)]
-#[derive(Drop)]
+#[derive(Clone, Copy)]
 pub struct Reading {
     pub total: Cents,
     pub held: Cents,
@@ -62,7 +62,7 @@ pub struct Reading {
 }
 
 // A closing channel, its deadline and what it holds, if there is some.
-#[derive(Drop)]
+#[derive(Clone, Copy)]
 pub struct Soonest {
     pub some: bool,
     pub number: u8,
@@ -71,7 +71,7 @@ pub struct Soonest {
 }
 
 // The channel that is due next.
-#[derive(Drop)]
+#[derive(Clone, Copy)]
 pub enum Found {
     At(u8),
     Nothing,

@@ -1,4 +1,6 @@
 // What the arbiter's code and definitions speak of: a book of 64 payment channels, and what its calls answer.
+#![tactic(auto)]
+
 mod answers;
 mod limits;
 mod state;

@@ -3,7 +3,7 @@ use crate::units::{Cents, Seconds};
 
 // One side of a channel: its key, and the deposit that it agreed to.
 #[repr(C)]
-#[derive(Drop)]
+#[derive(Clone, Copy)]
 pub struct Party {
     pub key: [u8; 56],
     pub deposit: Cents,
@@ -11,7 +11,7 @@ pub struct Party {
 
 // The merchant's leaves that a channel remembers, one for each closing: both are the same where there is one.
 #[repr(C)]
-#[derive(Drop)]
+#[derive(Clone, Copy)]
 pub struct Leaves {
     pub first: u32,
     pub second: u32,
@@ -19,7 +19,7 @@ pub struct Leaves {
 
 // The customer is document 01's café, the merchant its bakery. A customer's closing keeps its part and the lock here.
 #[repr(C)]
-#[derive(Drop)]
+#[derive(Clone, Copy)]
 pub struct Channel {
     pub customer: Party,
     pub merchant: Party,
@@ -33,7 +33,7 @@ pub struct Channel {
 
 // What an opening is given: the delay that a 0 in a 02 stands for, the fee in ten-thousandths, and whether there is a list of shut dates.
 #[repr(C)]
-#[derive(Drop)]
+#[derive(Clone, Copy)]
 pub struct Settings {
     pub delay: u32,
     pub fee: u32,
@@ -43,7 +43,7 @@ pub struct Settings {
 // What a book keeps of its opening. Where dated is not 0 the first count of days are shut, and so are Saturdays and Sundays. An even count of words, so that
 // no hole comes before the clock.
 #[repr(C)]
-#[derive(Drop)]
+#[derive(Clone, Copy)]
 pub struct Setup {
     pub delay: u32,
     pub fee: u32,
@@ -54,7 +54,7 @@ pub struct Setup {
 
 // The mark says that an opening wrote the book.
 #[repr(C)]
-#[derive(Drop)]
+#[derive(Clone, Copy)]
 pub struct Book {
     pub mark: u64,
     pub id: [u8; 16],
@@ -64,7 +64,7 @@ pub struct Book {
 }
 
 // What a rule reads of the book beside its channel.
-#[derive(Drop)]
+#[derive(Clone, Copy)]
 pub struct Context {
     pub id: [u8; 16],
     pub clock: Seconds,

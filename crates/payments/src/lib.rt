@@ -1,4 +1,6 @@
 // Payments, and bank lines of them in packed decimal: written to a lent buffer, and read from there to a lent list.
+#![tactic(auto)]
+
 mod entries;
 mod lists;
 mod packed;

@@ -6,7 +6,7 @@ ghost use Rattle.payments.specs.Answers.{accepted, refused};
 use machine::Cents;
 
 // A payment: the party, 1 for the customer and 2 for the merchant, the channel n, and the amount.
-#[derive(Drop)]
+#[derive(Clone, Copy)]
 pub struct Payment {
     pub party: u64,
     pub channel: u64,
@@ -15,7 +15,7 @@ pub struct Payment {
 
 // What collecting, writing and reading answer: the refusal, or 0, and the number of payments, 0 where it was refused.
 #[repr(C)]
-#[derive(Drop)]
+#[derive(Clone, Copy)]
 pub struct Counted {
     pub refusal: u64,
     pub payments: usize,
@@ -29,12 +29,14 @@ pub fn is_party(p: u64) -> bool
 }
 
 // A payment as a list holds it: party, channel, amount.
+#[tactic(auto, unfolding(crate::specs::Payments::listed))]
 pub fn listed(p: Payment) -> [u64; 3]
     ensures { result ≡ listed p }
 {
     [p.party, p.channel, p.amount.0]
 }
 
+#[tactic(auto, unfolding(crate::specs::Payments::payment_of))]
 pub fn payment_of(entry: [u64; 3]) -> Payment
     ensures { result ≡ payment_of entry }
 {

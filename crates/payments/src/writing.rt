@@ -9,6 +9,7 @@ use crate::entries::put_entry;
 use crate::lists::{Counted, Payment, accepted, is_party, payment_of, refused};
 
 // Whether an entry can hold the payment.
+#[tactic(auto, unfolding(crate::specs::Answers::writable))]
 fn writable(p: Payment) -> bool
     ensures { result ≡ writable p }
 {

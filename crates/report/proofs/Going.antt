@@ -1,7 +1,7 @@
 -- The run that a part is made of: what the code's run is, and how far it goes.
 use Prim.Native.Nat.{ℕ, ◌+◌, ◌-◌, ◌≤◌, ◌<◌}
 use native.Mathlib.Omega.{arith}
-use mathlib.Core.Path.{◌≡◌, sym, ◌∙◌}
+use mathlib.Core.Path.{◌≡◌, sym, ap, ◌∙◌}
 use mathlib.Core.List.{List}
 use lib.Dec.{eqb}
 use lib.ListN.{length, take, drop, length-drop, length-replicate}
@@ -49,6 +49,18 @@ rest s used =
 pub same_run : (s : List ℕ) (x : Reached) (ls : List Line) → ls ≡ no_lines 64
     → run_of x.book (take (length s - (16 + x.used)) (drop (16 + x.used) s)) ls ≡ ran_from (drop 16 s) x
 same_run s x ls e = rw (rest s x.used, e)
+
+-- What the code's run answers, and how far it goes.
+pub same_ran : (s : List ℕ) (x : Reached) (ls : List Line) (r : Ran) → ls ≡ no_lines 64
+    → r ≡ ran_of (run_of x.book (take (length s - (16 + x.used)) (drop (16 + x.used) s)) ls) → r ≡ ran_of (ran_from (drop 16 s) x)
+same_ran s x ls r e o = o ∙ ap ran_of (same_run s x ls e)
+
+pub ran_bounds : (s : List ℕ) (x : Reached) (r : Ran) → r ≡ ran_of (ran_from (drop 16 s) x) → 16 + x.used ≤ length s
+    → (r.lines ≤ 64) × (r.lines ≤ r.used) × (16 + (x.used + r.used) ≤ length s)
+ran_bounds s x r e h =
+    let l = length-drop 16 s in
+    let g = goes (drop 16 s) x (omega (arith, l)) in
+    rw e (g.lines, g.each, omega (arith, g.bytes, l))
 
 -- The part that is made of a run.
 pub made : (d : Done) (x : Reached) (r : Ran) (b : Book) (ls : List Line) (t : Text) → r ≡ ran_of d → b ≡ d.book → ls ≡ d.lines

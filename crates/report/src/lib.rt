@@ -1,4 +1,6 @@
 // The text of a statement, part by part. Only the statement program calls it.
+#![tactic(auto)]
+
 mod lines;
 mod parts;
 mod texts;

@@ -9,12 +9,16 @@ use Rattle.sha256_block.specs.declared.rounds.Variables.{Variables}
 use Rattle.sha256_block.specs.Block.{compress_of}
 use Rattle.sha256.specs.declared.state.Sha256.{Sha256}
 use Rattle.sha256.specs.Digest.{hashed, block_of}
-use Rattle.sha256.specs.State.{Taken}
+use Rattle.sha256.specs.State.{Taken, Fed}
 use Rattle.sha256.proofs.Laws.{front, hashed_front, hashed_step}
 
 -- A state that has taken in m holds the bytes after m's whole blocks.
 pub left : (s : Sha256) (m : List ℕ) → Taken s m → length (drop (64 * (length m / 64)) m) ≡ s.n % 64
 left s m t = omega (arith, length-drop (64 * (length m / 64)) m, t.count)
+
+-- The first part that is fed is all that was taken in.
+pub fed : (s t : Sha256) (m : List ℕ) → Taken s [] → Fed s m t → Taken t m
+fed s t m n f = f.taken [] n
 
 small_mod : (n p r : ℕ) → n % 64 + p < 64 → r ≡ n + p → r % 64 ≡ n % 64 + p
 small_mod n p r h e = omega arith

@@ -20,6 +20,7 @@ pub struct Hashed {
 }
 
 // The digest of at most 65,536 bytes, with refusal 0; of more, refusal 2 and zeros.
+#[tactic(auto, using(crate::proofs::Feeding::fed))]
 pub fn hash(bytes: &[u8]) -> Hashed
     ensures { result ≡ hash_answer bytes.now }
 {

@@ -20,61 +20,61 @@ fn any_signer() -> Signer {
 }
 
 // The root of a small tree, by a seed and an identifier.
-fn root_row(seed: &[u8], id: &[u8]) {
+fn root_row(rt: &impl Print, seed: &[u8], id: &[u8]) {
     if seed.len() != 32 {
         return;
     }
     if id.len() != 16 {
         return;
     }
-    print_root(root(id_at(id, 0), digest_at(seed, 0)));
+    print_root(rt, root(id_at(id, 0), digest_at(seed, 0)));
 }
 
 // A key making, by a seed and an identifier.
-fn make_row(signer: Signer, seed: &[u8], id: &[u8]) -> Signer {
+fn make_row(rt: &impl Print, signer: Signer, seed: &[u8], id: &[u8]) -> Signer {
     let made = signer::made(signer, seed, id);
-    print_made(made);
+    print_made(rt, made);
     made.signer
 }
 
 // A signing, by a C and a message; what was signed is checked under the signer's key.
-fn sign_row(signer: Signer, nonce: &[u8], message: &[u8]) -> Signer {
+fn sign_row(rt: &impl Print, signer: Signer, nonce: &[u8], message: &[u8]) -> Signer {
     let signed = signer::signed(signer, nonce, message);
     let after = signed.signer;
     let signature = signed.signature;
-    print_signed(after.next, signature);
+    print_signed(rt, after.next, signature);
     if signature.refusal == 0 {
         let key = signer.key;
         let bytes = signature.bytes;
-        print_checks(key, message, bytes);
+        print_checks(rt, key, message, bytes);
     }
     after
 }
 
 // The next leaf, in four bytes, set from outside.
-fn leaf_row(signer: Signer, leaf: &[u8]) -> Signer {
+fn leaf_row(rt: &impl Print, signer: Signer, leaf: &[u8]) -> Signer {
     if leaf.len() != 4 {
         return signer;
     }
     let mut after = signer;
     after.next = u32_at(leaf, 0);
-    print_leaf(after.next);
+    print_leaf(rt, after.next);
     after
 }
 
 // What a row makes of the signer.
-fn row(signer: Signer, kind: u8, first: &[u8], second: &[u8]) -> Signer {
+fn row(rt: &impl Print, signer: Signer, kind: u8, first: &[u8], second: &[u8]) -> Signer {
     if kind == 1 {
-        root_row(first, second);
+        root_row(rt, first, second);
         return signer;
     }
     if kind == 2 {
-        return make_row(signer, first, second);
+        return make_row(rt, signer, first, second);
     }
     if kind == 3 {
-        return sign_row(signer, first, second);
+        return sign_row(rt, signer, first, second);
     }
-    leaf_row(signer, first)
+    leaf_row(rt, signer, first)
 }
 
 // Where the field that begins at `at` ends; `at` where no whole field begins there.
@@ -95,7 +95,7 @@ fn field_end(m: &[u8], at: usize) -> usize
 }
 
 // Runs every whole row of m.
-pub fn run(m: &[u8]) {
+pub fn run(rt: &impl Print, m: &[u8]) {
     let mut signer = any_signer();
     let mut at: usize = 0;
     while at < m.len() {
@@ -107,7 +107,7 @@ pub fn run(m: &[u8]) {
         if end - middle < 2 {
             return;
         }
-        let next = row(signer, m[at], &m[at + 3..middle], &m[middle + 2..end]);
+        let next = row(rt, signer, m[at], &m[at + 3..middle], &m[middle + 2..end]);
         signer = next;
         at = end;
     }

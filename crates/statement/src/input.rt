@@ -2,7 +2,7 @@
 ghost use Rattle.std.specs.Prelude.{length, ◌≡◌};
 ghost use Rattle.io.specs.Counts.{IsPrefixLen};
 
-use libc::STDIN_FILENO;
+use std::io::Read;
 
 // The bytes at the start of a buffer that were read, and whether a read failed after them.
 #[derive(Drop)]
@@ -19,16 +19,14 @@ pub fn input_buffer() -> [u8; 65537]
 }
 
 // Reads until the buffer is full, the input ends or a read fails.
-pub fn read_input(buf: &mut [u8]) -> Taken
+pub fn read_input(input: &mut impl Read, buf: &mut [u8]) -> Taken
     ensures { IsPrefixLen result.n buf.new }
 {
     let mut n: usize = 0;
     while n < buf.len() {
-        let got = libc::read(STDIN_FILENO, &mut buf[n..]);
-        if got < 0 {
+        let Ok(more) = input.read(&mut buf[n..]) else {
             return Taken { failed: true, n };
-        }
-        let more = io::count(got, &buf[n..]);
+        };
         if more == 0 {
             break;
         }

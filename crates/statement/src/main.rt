@@ -1,4 +1,6 @@
 // Reads a book's id and a journal from standard input, and prints a line for each command and a last one for the journal.
+#![tactic(auto)]
+
 mod input;
 mod output;
 mod printing;
@@ -7,13 +9,13 @@ use crate::input::{input_buffer, read_input};
 use crate::output::complain;
 use crate::printing::print_statement;
 
-fn main() {
+fn main(rt: HostRuntime) {
     let mut input = input_buffer();
-    let taken = read_input(&mut input);
+    let taken = read_input(&mut rt.stdin(), &mut input);
     if taken.failed {
-        complain(b"statement: the input failed\n");
+        complain(&mut rt.stderr(), b"statement: the input failed\n");
         return;
     }
     let n = taken.n;
-    print_statement(&input[..n]);
+    print_statement(&mut rt.stdout(), &input[..n]);
 }

@@ -1,9 +1,11 @@
 // Prints what published messages and signatures come to, and messages and hashes at the edges of blocks, limits and checksums.
+#![tactic(auto)]
+
 mod hash;
 mod print;
 mod signature;
 
-fn main() {
-    hash::print_all();
-    signature::print_all();
+fn main(rt: HostRuntime) {
+    hash::print_all(&rt);
+    signature::print_all(&rt, &mut rt.stdin());
 }

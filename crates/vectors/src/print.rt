@@ -1,8 +1,5 @@
-// Digests in print, and parts of a byte string.
+// Texts, numbers and digests in print, and parts of a byte string. An output that takes no more takes nothing, and ends nothing.
 ghost use Rattle.std.specs.Prelude.{◌≡◌, ◌-◌, ◌≤◌, length};
-
-use libc::STDOUT_FILENO;
-use wire::wide;
 
 // The bytes of m from one place up to another.
 pub fn part(m: &[u8], from: usize, to: usize) -> &[u8]
@@ -12,9 +9,18 @@ pub fn part(m: &[u8], from: usize, to: usize) -> &[u8]
     &m[from..to]
 }
 
-pub fn print_digest(digest: [u8; 32]) {
+pub fn print_text(rt: &impl Print, words: &str) {
+    let _ = rt.print(words);
+}
+
+pub fn print_number(rt: &impl Print, n: u64) {
+    let _ = rt.print(n);
+}
+
+pub fn print_digest(rt: &impl Print, digest: [u8; 32]) {
     for i in 0..32 {
-        io::print_hex(STDOUT_FILENO, wide(digest[i]) as u64, 2);
+        let byte = digest[i];
+        let _ = print!(rt; "{byte:02x}");
     }
-    io::write_all(STDOUT_FILENO, b"\n");
+    print_text(rt, "\n");
 }

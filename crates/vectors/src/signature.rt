@@ -2,8 +2,9 @@
 // The first row is of RFC 8554, over a tree of height 5, and is printed stage by stage.
 ghost use Rattle.std.specs.Prelude.{◌+◌, ◌<◌, ◌≤◌, length};
 
-use crate::print::{part, print_digest};
-use libc::{STDIN_FILENO, STDOUT_FILENO};
+use crate::print::{part, print_digest, print_number, print_text};
+use inputs::read_full;
+use std::io::Read;
 use wire::{digest_at, id_at, u16_at, u32_at, wide};
 
 // The place of a field's bytes; both 0 where there is no field.
@@ -28,7 +29,7 @@ fn root(id: [u8; 16], leaf: u32, key: [u8; 32], signature: &[u8]) -> [u8; 32]
 }
 
 // The leaf key, the steps to it and the root that a signature over a tree of height 5 comes to.
-fn print_stages(key: &[u8], message: &[u8], signature: &[u8]) {
+fn print_stages(rt: &impl Print, key: &[u8], message: &[u8], signature: &[u8]) {
     if key.len() < 24 {
         return;
     }
@@ -47,27 +48,27 @@ fn print_stages(key: &[u8], message: &[u8], signature: &[u8]) {
     let walked = lms::leaf_key(id, leaf, hash, signature);
     let end = walked.key;
     let top = root(id, leaf, end, signature);
-    io::write_all(STDOUT_FILENO, b"leaf key ");
-    print_digest(end);
-    io::write_all(STDOUT_FILENO, b"steps ");
-    io::print_decimal(STDOUT_FILENO, walked.steps as u64);
-    io::write_all(STDOUT_FILENO, b"\nroot ");
-    print_digest(top);
+    print_text(rt, "leaf key ");
+    print_digest(rt, end);
+    print_text(rt, "steps ");
+    print_number(rt, walked.steps as u64);
+    print_text(rt, "\nroot ");
+    print_digest(rt, top);
 }
 
 // The refusal, the verdict, the steps and the leaf of a check.
-fn print_check(key: &[u8], message: &[u8], signature: &[u8]) {
+fn print_check(rt: &impl Print, key: &[u8], message: &[u8], signature: &[u8]) {
     let checked = lms::check(key, message, signature);
-    io::print_decimal(STDOUT_FILENO, checked.refusal as u64);
+    print_number(rt, checked.refusal as u64);
     if checked.verdict {
-        io::write_all(STDOUT_FILENO, b" yes ");
+        print_text(rt, " yes ");
     } else {
-        io::write_all(STDOUT_FILENO, b" no ");
+        print_text(rt, " no ");
     }
-    io::print_decimal(STDOUT_FILENO, checked.steps as u64);
-    io::write_all(STDOUT_FILENO, b" leaf ");
-    io::print_decimal(STDOUT_FILENO, checked.leaf as u64);
-    io::write_all(STDOUT_FILENO, b"\n");
+    print_number(rt, checked.steps as u64);
+    print_text(rt, " leaf ");
+    print_number(rt, checked.leaf as u64);
+    print_text(rt, "\n");
 }
 
 // The field at a place of m.
@@ -94,7 +95,7 @@ fn field(m: &[u8], at: usize) -> Span
 }
 
 // Prints the row at a place of m, and answers where it ends; 0 where there is no whole row.
-fn print_row(m: &[u8], number: u64, at: usize) -> usize {
+fn print_row(rt: &impl Print, m: &[u8], number: u64, at: usize) -> usize {
     let key = field(m, at);
     if key.start == 0 {
         return 0;
@@ -111,21 +112,21 @@ fn print_row(m: &[u8], number: u64, at: usize) -> usize {
     let text = part(m, message.start, message.end);
     let s = part(m, signature.start, signature.end);
     if number == 0 {
-        print_stages(k, text, s);
+        print_stages(rt, k, text, s);
     } else {
-        io::print_decimal(STDOUT_FILENO, number);
-        io::write_all(STDOUT_FILENO, b" ");
-        print_check(k, text, s);
+        print_number(rt, number);
+        print_text(rt, " ");
+        print_check(rt, k, text, s);
     }
     signature.end
 }
 
 // Prints each row of m, and answers whether m is whole rows to its end.
-fn print_rows(m: &[u8]) -> bool {
+fn print_rows(rt: &impl Print, m: &[u8]) -> bool {
     let mut at = 0;
     let mut number: u64 = 0;
     while at < m.len() {
-        let next = print_row(m, number, at);
+        let next = print_row(rt, m, number, at);
         if next <= at {
             return false;
         }
@@ -136,25 +137,25 @@ fn print_rows(m: &[u8]) -> bool {
 }
 
 // The steps of a hash, given by its first byte and the one that each other byte is, after the sum of its bytes.
-fn print_steps(first: u8, other: u8) {
+fn print_steps(rt: &impl Print, first: u8, other: u8) {
     let mut hash = [other; 32];
     hash[0] = first;
     let sum = wide(first) + 31 * wide(other);
-    io::write_all(STDOUT_FILENO, b"sum ");
-    io::print_decimal(STDOUT_FILENO, sum as u64);
-    io::write_all(STDOUT_FILENO, b" steps ");
-    io::print_decimal(STDOUT_FILENO, lms::step_count(hash) as u64);
-    io::write_all(STDOUT_FILENO, b"\n");
+    print_text(rt, "sum ");
+    print_number(rt, sum as u64);
+    print_text(rt, " steps ");
+    print_number(rt, lms::step_count(hash) as u64);
+    print_text(rt, "\n");
 }
 
 // Every row, and the steps of hashes at the edges.
-pub fn print_all() {
-    let mut input = io::large_buffer();
-    let n = io::read_full(STDIN_FILENO, &mut input);
-    if print_rows(&input[..n]) {
-        print_steps(255, 255);
-        print_steps(0, 0);
-        print_steps(224, 0);
-        print_steps(225, 0);
+pub fn print_all(rt: &impl Print, input: &mut impl Read) {
+    let mut bytes = [0u8; 65536];
+    let n = read_full(input, &mut bytes);
+    if print_rows(rt, &bytes[..n]) {
+        print_steps(rt, 255, 255);
+        print_steps(rt, 0, 0);
+        print_steps(rt, 224, 0);
+        print_steps(rt, 225, 0);
     }
 }

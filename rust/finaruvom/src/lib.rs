@@ -1,4 +1,4 @@
-//! The channel arbiter, proved: a safe wrapper around the archive that `rt staticlib finaruvom`
+//! The channel arbiter, proved: a safe wrapper around the archive that `tools/made finaruvom`
 //! makes.
 //!
 //! A customer, as a café, and a merchant, as its bakery, or one of them alone, pay deposits into a

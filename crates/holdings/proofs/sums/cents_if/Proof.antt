@@ -1,9 +1,0 @@
-use borrow.Author.Rules.{rules}
-use Rattle.holdings.proofs.sums.cents_if.Statement.{statement}
-use Rattle.holdings.proofs.sums.cents_if.Tie as tie
-
-returns-2 : tie.Need-returns-2
-returns-2 c = rw c.if1.false
-
-pub cents_if_spec : {M : Type 1} → statement M
-cents_if_spec = tie.close (tie.spec (λ c. search rules) returns-2)
