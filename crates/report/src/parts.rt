@@ -64,6 +64,7 @@ fn whole(t: &[u8]) -> Part
 }
 
 // The first part of an input's statement: without an id there is no book.
+#[tactic(auto, unfolding(crate::specs::Parts::first_part))]
 pub fn first_part(input: &[u8]) -> Part
     ensures { result ≡ first_part input.now }
 {

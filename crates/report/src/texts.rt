@@ -33,6 +33,7 @@ pub fn text_of(t: &[u8]) -> Text
 }
 
 // The text of a run: its lines, numbered from a number on, and the end where lines are not short.
+#[tactic(auto, using(crate::proofs::Buffers::text_stored, crate::proofs::Buffers::short_stored, wire::proofs::Pasting::put_next), unfolding(crate::specs::Parts::text_of))]
 pub fn run_text(lines: [Line; 64], ran: Ran, number: usize, used: usize) -> Text
     requires { (ran.lines ≤ 64) × (number + 64 < 2 ^ 64) }
     ensures { result ≡ stored (text_of lines ran number used) }
