@@ -51,9 +51,6 @@ module _ (cs : List ℕ) (ls : List Line) (l₀ : List (List ℕ)) where
   abbrev pub left : Walk → ℕ
   left w = cond w.stores 0 (suc (length ls)) + (length ls - w.line)
 
-  pub at_start : Place (begun false) l₀
-  at_start = record { at_ok = omega arith; line_ok = omega arith; few = omega arith; len = refl; adds = zero-add _; counting = λ _. refl; storing = λ e. absurd (false≢true e) }
-
   abbrev pub TurnIs : Walk → Turn → Type 0
   TurnIs w t = t ≡ turn_of cs (length ls) (length l₀) w
 
@@ -225,9 +222,6 @@ module _ {cs : List ℕ} {ls : List Line} {l₀ : List (List ℕ)} (z : State cs
   module _ (l : Line) (h : l ≡ get_or ls t.walk.line no_line) (w : Walk) (list' : List (List ℕ)) (k : TakenIs l w list') where
     pub placed : Place cs ls l₀ w list'
     placed = rw (k.0, h) (after cs ls l₀ t z.list goes_on list' (rw h at k.1))
-
-    abbrev pub turned_state : State cs ls l₀
-    turned_state = record { walk = w; list = list'; here = placed }
 
     pub fewer : left cs ls l₀ w < left cs ls l₀ z.walk
     fewer = rw (k.0, h) (less cs ls l₀ t z.list goes_on z.walk e g)

@@ -1,4 +1,6 @@
 // A run's payments for the bank: collected into a list, written to a buffer in packed decimal, and read from there.
+#![tactic(auto)]
+
 mod collecting;
 mod lines;
 mod walking;

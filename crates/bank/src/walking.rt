@@ -9,7 +9,7 @@ use payments::{Counted, Payment, accepted, listed, refused};
 use wire::u16_at;
 
 // How far it has come: whether it stores payments or counts them, bytes and lines behind it, and payments so far.
-#[derive(Drop)]
+#[derive(Clone, Copy)]
 pub struct Walk {
     pub stores: bool,
     pub at: usize,
@@ -18,7 +18,7 @@ pub struct Walk {
 }
 
 // The command that comes next, from where `walk` is to `end`, or else the answer.
-#[derive(Drop)]
+#[derive(Clone, Copy)]
 pub struct Turn {
     pub goes: bool,
     pub walk: Walk,

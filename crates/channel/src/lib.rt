@@ -1,4 +1,6 @@
 // The rule of each command on one channel: what it makes of it, whom it pays, or the first check that it fails. Only the product's own parts call it.
+#![tactic(auto)]
+
 ghost use Rattle.std.specs.Prelude.{◌≡◌, true, ◌≤◌, length};
 ghost use Rattle.sha256.specs.Digest.{sha256};
 ghost use Rattle.machine.specs.Format.{size};

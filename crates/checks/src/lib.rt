@@ -1,4 +1,6 @@
 // A command's checks, one after the other: the first no decides, and what comes of it. Only the product's own parts call it.
+#![tactic(auto)]
+
 mod judging;
 mod secrets;
 mod signatures;

@@ -1,4 +1,6 @@
 // 06 to 0A on one channel: how it is closed, and what each way pays. Only the product's own parts call it.
+#![tactic(auto)]
+
 ghost use Rattle.std.specs.Prelude.{◌≡◌, true, ◌≤◌, length};
 ghost use Rattle.sha256.specs.Digest.{sha256};
 ghost use Rattle.machine.specs.Format.{lock, secret, customer_part, merchant_part};

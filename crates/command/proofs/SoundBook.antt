@@ -1,15 +1,14 @@
 -- What a sound book tells of each channel, and the test of a book in parts.
-use mathlib.Core.Path.{◌≡◌, refl, sym, ap, ◌∙◌}
-use mathlib.Core.Bool.{Bool, true, ◌&&◌, and-true, and_assoc}
-use Prim.Native.Nat.{ℕ, ◌+◌, ◌≤◌, ◌<◌}
-use native.Mathlib.Numerals.{add-one}
+use mathlib.Core.Path.{◌≡◌, refl, ◌∙◌}
+use mathlib.Core.Bool.{Bool, true, ◌&&◌}
+use Prim.Native.Nat.{ℕ, ◌≤◌}
 use native.Mathlib.Omega.{arith}
 use lib.ListN.{length, take}
 use lib.Seq.{take_all}
 use Rattle.wire.specs.Parts.{all}
 use Rattle.machine.specs.Book.{sound_channel, sound, channel, no_channel}
 use Rattle.machine.specs.declared.state.Book.{Book}
-use Rattle.wire.proofs.Tested.{all_at, all_more}
+use Rattle.wire.proofs.Tested.{all_at}
 use Rattle.machine.proofs.Laws.{header, sound_parts}
 
 pub sound_at : (b : Book) (n : ℕ) → sound b ≡ true → sound_channel (channel b n) ≡ true
@@ -27,17 +26,7 @@ in_parts b p q = rw (p, q)
 abbrev pub Tested : Book → Bool → ℕ → Type 0
 Tested b ok i = (i ≤ 64) × (ok ≡ (header b && all sound_channel (take i b.channels)))
 
-pub tested_none : (b : Book) (ok : Bool) → ok ≡ header b → Tested b ok 0
-tested_none b ok e = (omega arith, e ∙ sym (and-true _))
-
 module _ (b : Book) (h : length b.channels ≡ 64) (ok : Bool) (i : ℕ) (t : Tested b ok i) where
-  pub tested_more : (x : Bool) → i < 64 → x ≡ sound_channel (channel b i) → Tested b (ok && x) (i + 1)
-  tested_more x l e =
-      let rest = all sound_channel (take i b.channels) in (
-        omega arith,
-        rw (t.1, e, add-one) (and_assoc (header b) rest (sound_channel (channel b i)) ∙ ap (λ (y : Bool). header b && y) (all_more sound_channel b.channels i no_channel (omega arith))),
-      )
-
   pub tested_all : 64 ≤ i → ok ≡ sound b
   unfolding sound
   tested_all l = t.1 ∙ rw (take_all i b.channels (omega arith))

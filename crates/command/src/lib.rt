@@ -1,4 +1,6 @@
 // One command on one book, by value: whether the book is sound, the checks that all commands share, and the step.
+#![tactic(auto)]
+
 mod soundness;
 mod steps;
 

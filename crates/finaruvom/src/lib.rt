@@ -1,4 +1,6 @@
 // What a C or a Rust program calls: the static library libfinaruvom.a.
+#![tactic(auto)]
+
 ghost use Rattle.std.specs.Prelude.{◌≡◌, map};
 ghost use Rattle.sha256.specs.Answer.{hash_answer};
 ghost use Rattle.lms.specs.Check.{check_of};
@@ -23,7 +25,7 @@ use signer::{Signature, Signer};
 
 // The library's version, and the layout of its books.
 #[repr(C)]
-#[derive(Drop)]
+#[derive(Clone, Copy)]
 pub struct Version {
     pub major: u32,
     pub minor: u32,
@@ -152,7 +154,7 @@ pub extern "C" fn finaruvom_read(book: &Book, n: usize) -> Reading
 
 // The channel that is due next; 0 where there is none.
 #[repr(C)]
-#[derive(Drop)]
+#[derive(Clone, Copy)]
 pub struct NextDue {
     pub some: bool,
     pub channel: u8,

@@ -1,4 +1,4 @@
--- A run by its turns, how far it goes, and with more lines; journals and calls as lists of commands; the loop of the run, and the walks' shared pieces.
+-- A run by its turns, how far it goes, and with more lines; journals and calls as lists of commands; the loop of the run.
 pub mod Turning
 pub mod Bounds
 pub mod Continued
@@ -6,5 +6,3 @@ pub mod Journals
 pub mod Called
 pub mod CallsReached
 pub mod Running
-pub mod Walking
-pub mod Again

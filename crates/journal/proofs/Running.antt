@@ -55,7 +55,7 @@ module _ (cs : List ℕ) (at room : ℕ) where
   goes_on a b c d = ap (ahead_of at) (sym (by_numbers ∙ simp (ne_eqb left 0 a, ne_eqb room 0 b, ne_eqb whole 0 c, le-ltb left whole d)))
 
 -- The run d over cs, once n of the lines ys are written and so many bytes used: it is those, and then the run from there.
-abbrev Upto : List ℕ → Done → Book → List Line → ℕ → ℕ → Type 0
+abbrev pub Upto : List ℕ → Done → Book → List Line → ℕ → ℕ → Type 0
 Upto cs d h ys n at = d ≡ prefixed (take n ys) n at (run_of h (drop at cs) (drop n ys))
 
 -- The run d over cs with m lines, before a turn.
@@ -69,9 +69,9 @@ pub record State (cs : List ℕ) (m : ℕ) (d : Done) : Type 0 where
   pub len : length lines ≡ m
   pub upto : Upto cs d book lines n at
 
--- Before the first turn.
-abbrev pub start : (h : Book) (cs : List ℕ) (ys : List Line) → State cs (length ys) (run_of h cs ys)
-start h cs ys = record { at = 0; n = 0; book = h; lines = ys; at_ok = omega arith; n_ok = omega arith; len = refl; upto = prefixed_none (run_of h cs ys) }
+-- At the numbers, the book and the lines of a turn.
+abbrev pub state_at : (cs : List ℕ) (d : Done) (at n : ℕ) (h : Book) (ys : List Line) → at ≤ length cs → n ≤ length ys → Upto cs d h ys n at → State cs (length ys) d
+state_at cs d at n h ys p q u = record { at = at; n = n; book = h; lines = ys; at_ok = p; n_ok = q; len = refl; upto = u }
 
 module _ {cs : List ℕ} {m : ℕ} {d : Done} (z : State cs m d) where
   -- What is left of the bytes, and what comes next.

@@ -5,7 +5,7 @@ ghost use Rattle.journal.specs.Runs.{next_of, ahead_of};
 use arbiter::size_of;
 
 // A command that ends at `end`, where `goes`, or else the cause to stop.
-#[derive(Drop)]
+#[derive(Clone, Copy)]
 pub struct Ahead {
     pub goes: bool,
     pub cause: u64,

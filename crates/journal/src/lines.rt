@@ -5,7 +5,7 @@ use machine::Answer;
 
 // One line for each command: it holds the command's answer.
 #[repr(C)]
-#[derive(Drop)]
+#[derive(Clone, Copy)]
 pub struct Line {
     pub answer: Answer,
 }

@@ -9,7 +9,7 @@ use machine::Book;
 
 // What a run answers: the lines that it wrote, the bytes that it used, and why it stopped.
 #[repr(C)]
-#[derive(Drop)]
+#[derive(Clone, Copy)]
 pub struct Ran {
     pub lines: usize,
     pub used: usize,
@@ -42,7 +42,7 @@ pub fn run(book: &mut Book, commands: &[u8], lines: &mut [Line]) -> Ran
 }
 
 // What a run leaves, by value.
-#[derive(Drop)]
+#[derive(Clone, Copy)]
 pub struct Whole {
     pub book: Book,
     pub lines: [Line; 64],

@@ -6,6 +6,7 @@ use crate::lines::Line;
 use arbiter::apply;
 use machine::Book;
 
+#[tactic(auto, unfolding(crate::specs::Runs::turned_of))]
 pub fn turn(book: &mut Book, commands: &[u8], at: usize, end: usize) -> Line
     requires { (at ≤ end) × (end ≤ length commands.now) }
     ensures { (result ≡ (turned_of book.old (take (end - at) (drop at commands.now))).line)

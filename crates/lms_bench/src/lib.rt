@@ -1,4 +1,6 @@
 // What the benchmark calls of the signature check: the leaf key with a hash Q that is given, so that the dearest one can be timed.
+#![tactic(auto)]
+
 ghost use Rattle.std.specs.Prelude.{◌≡◌, cond, leb, length};
 ghost use Rattle.lms.specs.OneTime.{leaf_key, step_count};
 

@@ -1,4 +1,6 @@
 // Key making and signing of RFC 8554: LMS type 6 (SHA-256, height 10) over LM-OTS type 4 (w = 8, 34 chains), with the private strings of its Appendix A.
+#![tactic(auto)]
+
 mod making;
 mod nodes;
 mod signing;

@@ -122,6 +122,7 @@ fn refused(refusal: u32) -> Signature
 }
 
 // What a signing answers.
+#[tactic(auto, using(crate::proofs::Answered::sign_nonce, crate::proofs::Answered::sign_long, crate::proofs::Answered::sign_none))]
 fn answer(signer: Signer, nonce: &[u8], message: &[u8]) -> Signature
     ensures { result ≡ (sign_of signer nonce.now message.now).signature }
 {

@@ -2,14 +2,14 @@
 
 // The value of one node of the tree.
 #[repr(C)]
-#[derive(Drop)]
+#[derive(Clone, Copy)]
 pub struct Node {
     pub value: [u8; 32],
 }
 
 // The key, the seed of the private strings, the next leaf, and the tree: node r at place r, from the root, 1, to the leaves, 1,024 to 2,047.
 #[repr(C)]
-#[derive(Drop)]
+#[derive(Clone, Copy)]
 pub struct Signer {
     pub key: [u8; 56],
     pub seed: [u8; 32],
@@ -19,7 +19,7 @@ pub struct Signer {
 
 // What key making gives: the signer, and the refusal, or 0.
 #[repr(C)]
-#[derive(Drop)]
+#[derive(Clone, Copy)]
 pub struct MadeKey {
     pub signer: Signer,
     pub refusal: u32,
@@ -27,7 +27,7 @@ pub struct MadeKey {
 
 // What a signing answers: the refusal, or 0, and the signature.
 #[repr(C)]
-#[derive(Drop)]
+#[derive(Clone, Copy)]
 pub struct Signature {
     pub refusal: u32,
     pub bytes: [u8; 1452],
@@ -35,7 +35,7 @@ pub struct Signature {
 
 // What a signing gives: the signer as it is left, and the answer.
 #[repr(C)]
-#[derive(Drop)]
+#[derive(Clone, Copy)]
 pub struct SignedMessage {
     pub signer: Signer,
     pub signature: Signature,
