@@ -10,7 +10,6 @@ use borrow.Author.Tests.{leb-true, le-leb}
 use lib.Dec.{leb}
 use lib.ListN.{length, take, drop, get_or, length-append, length-drop}
 use lib.Seq.{drop-drop}
-use Rattle.machine.specs.Format.{size}
 use Rattle.payments.specs.declared.lists.Counted.{Counted}
 use Rattle.payments.specs.declared.lists.Payment.{Payment}
 use Rattle.payments.specs.Answers.{accepted, refused}

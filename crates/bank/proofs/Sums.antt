@@ -15,7 +15,7 @@ use Rattle.machine.specs.Format.{opcode, place}
 use Rattle.machine.specs.Opening.{opening}
 use Rattle.machine.specs.Rules.{pay}
 use Rattle.machine.specs.Rules.{Payment as Pays}
-use Rattle.machine.specs.Machine.{answer, order}
+use Rattle.machine.specs.Machine.{order}
 use Rattle.machine.specs.Real.{lms_verdict, real_step}
 use Rattle.ledger.specs.Ledger.{Entry, Event, Shares, accepted, of_channel, sum, paid, strings, clock}
 use Rattle.machine.specs.declared.units.Cents.{Cents}

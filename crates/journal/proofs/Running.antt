@@ -15,7 +15,7 @@ use Rattle.journal.specs.declared.lines.Line.{Line}
 use Rattle.journal.specs.declared.following.Ahead.{Ahead}
 use Rattle.journal.specs.declared.runs.Ran.{Ran}
 use Rattle.journal.specs.Runs.{Next, stop, next_by, next_of, ahead_of, turned_of, Done, stopped, prefixed, run_of, ran_of}
-use Rattle.journal.proofs.Turning.{fits, run_go, run_stop, prefixed_none, prefixed_twice}
+use Rattle.journal.proofs.Turning.{fits, run_go, run_stop, prefixed_twice}
 
 -- What comes next at a place of the bytes, with so many lines left.
 module _ (cs : List ℕ) (at room : ℕ) where

@@ -11,7 +11,7 @@ use lib.ListN.{length, take, drop}
 use Rattle.machine.specs.Format.{opcode, size}
 use Rattle.machine.specs.declared.state.Book.{Book}
 use Rattle.journal.specs.declared.lines.Line.{Line}
-use Rattle.journal.specs.Runs.{Next, Done, stop, go, next_by, next_of, turned_of, stopped, prefixed, run_of}
+use Rattle.journal.specs.Runs.{Next, Done, stop, next_by, next_of, turned_of, stopped, prefixed, run_of}
 use Rattle.journal.specs.Divided.{divided}
 
 -- ---- what comes next

@@ -1,4 +1,4 @@
-use Rattle.std.proofs.Common.{arith, ◌∙◌, ◌≡◌}
+use Rattle.std.proofs.Common.{arith, ◌∙◌}
 use Rattle.machine.specs.Opening.{Opening, under}
 use Rattle.arbiter.proofs.Openings.{asked, fresh_by, opening_no, opening_yes, ordered, part_all, whole_id}
 use Rattle.arbiter.proofs.opening.opened_with.Goals as goal

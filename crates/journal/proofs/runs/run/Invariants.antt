@@ -9,7 +9,7 @@ invariant-loop-ahead l = record {
   at_ok : l.at ≤ length l.commands;
   n_ok : l.n ≤ length l.fn.lines;
   len : length l.lines ≡ length l.fn.lines;
-  upto : Upto l.commands (run_of l.fn.book l.commands l.fn.lines) l.book l.lines l.n l.at
+  upto : Upto l.commands (run_of l.fn.book l.commands l.fn.lines) l.book l.lines l.n l.at;
 }
 
 abbrev pub decreases-loop-ahead : goal.decreases-loop-ahead
