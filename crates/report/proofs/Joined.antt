@@ -24,7 +24,7 @@ use Rattle.report.proofs.RunTexts.{ran_text, by_last, by_more, from_start}
 -- ---- the parts after the first
 
 -- A part that no other follows, and one that others follow.
-alone : (n : ℕ) (cs : List ℕ) (p : Part) → p.more ≡ false → parts_from n cs p ≡ p ∷ []
+pub alone : (n : ℕ) (cs : List ℕ) (p : Part) → p.more ≡ false → parts_from n cs p ≡ p ∷ []
 unfolding parts_from
 alone zero cs p e = refl
 alone (suc n) cs p e = simp e

@@ -1,5 +1,6 @@
 // Standard input.
-ghost use Rattle.std.specs.Prelude.{length, ◌≡◌};
+ghost use Rattle.std.specs.Prelude.{◌≡◌, ◌⊎◌, length, take, false};
+ghost use Rattle.std.specs.Io.KnownBytes.{Consumes, IsAtEnd};
 ghost use Rattle.io.specs.Counts.{IsPrefixLen};
 
 use std::io::Read;
@@ -19,8 +20,10 @@ pub fn input_buffer() -> [u8; 65537]
 }
 
 // Reads until the buffer is full, the input ends or a read fails.
-pub fn read_input(input: &mut impl Read, buf: &mut [u8]) -> Taken
-    ensures { IsPrefixLen result.n buf.new }
+pub fn read_input<R: Read>(input: &mut R, buf: &mut [u8]) -> Taken
+    ensures prefix { IsPrefixLen result.n buf.new }
+    ensures bytes { Consumes (R.remaining input.old) (R.remaining input.new) (take result.n buf.new) }
+    ensures end { result.failed ≡ false → (result.n ≡ length buf.old) ⊎ IsAtEnd (R.remaining input.new) }
 {
     let mut n: usize = 0;
     while n < buf.len() {

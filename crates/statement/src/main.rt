@@ -4,18 +4,10 @@
 mod input;
 mod output;
 mod printing;
+mod stating;
 
-use crate::input::{input_buffer, read_input};
-use crate::output::complain;
-use crate::printing::print_statement;
+use crate::stating::state;
 
 fn main(rt: HostRuntime) {
-    let mut input = input_buffer();
-    let taken = read_input(&mut rt.stdin(), &mut input);
-    if taken.failed {
-        complain(&mut rt.stderr(), b"statement: the input failed\n");
-        return;
-    }
-    let n = taken.n;
-    print_statement(&mut rt.stdout(), &input[..n]);
+    state(&mut rt.stdin(), &mut rt.stdout(), &mut rt.stderr());
 }

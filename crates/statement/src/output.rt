@@ -1,12 +1,16 @@
 // Standard output and standard error.
+ghost use Rattle.std.specs.Prelude.{IsTrue};
+ghost use Rattle.std.specs.Io.KnownBytes.{Appends};
 ghost use Rattle.io.specs.Counts.{IsPrefixLen};
+ghost use Rattle.report.specs.Parts.{shown};
 
 use report::Text;
 use std::io::Write;
 
 // Writes a text, and answers whether it was taken: a closed output takes none.
-pub fn print(output: &mut impl Write, text: Text) -> bool
+pub fn print<W: Write>(output: &mut W, text: Text) -> bool
     requires { IsPrefixLen text.size text.bytes }
+    ensures { IsTrue result → Appends (W.contents output.old) (W.contents output.new) (shown text) }
 {
     let bytes = text.bytes;
     let n = text.size;

@@ -1,23 +1,32 @@
-use Rattle.std.proofs.Common.{◌≡◌, true}
-use borrow.Author.Tests.{not-false}
-use Rattle.report.proofs.Ahead.{first_ahead, next_ahead, left_less}
+use Rattle.std.proofs.Common.{◌≡◌, true, false, [], subst}
+use borrow.Author.Tests.{not-true, not-false}
+use Rattle.std.specs.Io.KnownBytes.{Appends}
+use Rattle.std.proofs.KnownBytes.{Appends-nil, Appends-trans}
+use Rattle.report.proofs.Ahead.{first_ahead, next_ahead, all_said, left_less}
 use Rattle.statement.proofs.printing.print_statement.Goals as goal
 
 pub loop-part-init : goal.loop-part-init
-loop-part-init g c = rw c.first_part-part.ensures (first_ahead _)
+loop-part-init g c = rw c.first_part-part.ensures ([], first_ahead _, Appends-nil _)
+
+pub returns-then-not-part : goal.returns-then-not-part
+returns-then-not-part g c _ =
+    let (said, ahead, appended) = c.loop-part.invariant in
+    let e = all_said _ said c.loop-part.part (not-true _ c.if-not-part.true) ahead in
+    subst (Appends _ _) e (Appends-trans _ _ _ said _ appended (c.print.ensures c.if-not-print.false))
 
 pub next_part-following-requires : goal.next_part-following-requires-clause-old
 next_part-following-requires g c =
-    let m : c.loop-part.part.more ≡ true = not-false _ c.if-not-part.false in
-    let k = c.loop-part.invariant.goes_on m in
+    let (said, ahead, appended) = c.loop-part.invariant in
+    let k = ahead.goes_on (not-false _ c.if-not-part.false) in
     (k.0, k.1)
 
 pub loop-part-smaller : goal.loop-part-smaller
 loop-part-smaller g c =
-    let m : c.loop-part.part.more ≡ true = not-false _ c.if-not-part.false in
-    rw c.next_part-following.ensures (left_less _ c.loop-part.part m c.loop-part.invariant)
+    let (said, ahead, appended) = c.loop-part.invariant in
+    rw c.next_part-following.ensures (left_less _ said c.loop-part.part (not-false _ c.if-not-part.false) ahead)
 
 pub loop-part-preserved : goal.loop-part-preserved
 loop-part-preserved g c =
-    let m : c.loop-part.part.more ≡ true = not-false _ c.if-not-part.false in
-    rw c.next_part-following.ensures (next_ahead _ c.loop-part.part m c.loop-part.invariant)
+    let (said, ahead, appended) = c.loop-part.invariant in
+    let next = next_ahead _ said c.loop-part.part (not-false _ c.if-not-part.false) ahead in
+    rw c.next_part-following.ensures (_, next, Appends-trans _ _ _ said _ appended (c.print.ensures c.if-not-print.false))

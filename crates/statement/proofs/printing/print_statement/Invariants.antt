@@ -1,9 +1,11 @@
--- Before each turn the parts printed so far, and then the part in hand and those after it, are the parts of the input's statement.
+-- Before each turn what was printed is the text of the parts before the one in hand.
+use Rattle.std.proofs.Common.{ℕ, List}
+use Rattle.std.specs.Io.KnownBytes.{Appends}
 use Rattle.report.proofs.Ahead.{Ahead, left}
 use Rattle.statement.proofs.printing.print_statement.Given as goal
 
 abbrev pub invariant-loop-part : goal.invariant-loop-part
-invariant-loop-part g l = Ahead l.input l.part
+invariant-loop-part g l = (said : List ℕ) × Ahead l.input said l.part × Appends (g.W.Write.contents l.initial.output) (g.W.Write.contents l.output) said
 
 abbrev pub decreases-loop-part : goal.decreases-loop-part
 decreases-loop-part g l = left l.input l.part
