@@ -8,7 +8,7 @@ ghost use Rattle.machine.specs.Real.{real_step};
 use crate::next::due_of;
 use crate::opening::{opened, opened_with};
 use crate::readings::read_of;
-use command::step;
+use command::carry_out;
 use machine::{Answer, Book, Found, Reading, Settings};
 
 // The plain opening: makes any lent book fresh, with the id, and answers 0; an id that is not 16 bytes long gives 2 and keeps every value.
@@ -39,10 +39,7 @@ pub fn apply(book: &mut Book, command: &[u8]) -> Answer
     ensures { (result ≡ (real_step book.old command.now).answer)
         × (book.new ≡ (real_step book.old command.now).book) }
 {
-    let lent = *book;
-    let stepped = step(lent, command);
-    *book = stepped.book;
-    stepped.answer
+    carry_out(book, command)
 }
 
 // A reading of channel n.

@@ -5,4 +5,4 @@ mod soundness;
 mod steps;
 
 pub use soundness::{sound, sound_channels, sound_header};
-pub use steps::{size_of, step};
+pub use steps::{carry_out, size_of, step};

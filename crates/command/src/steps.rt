@@ -1,5 +1,5 @@
 // One command on one book.
-ghost use Rattle.std.specs.Prelude.{◌≡◌, [], ◌∷◌};
+ghost use Rattle.std.specs.Prelude.{◌≡◌, [], ◌∷◌, length};
 ghost use Rattle.machine.specs.Format.{opcode, size};
 ghost use Rattle.machine.specs.Checks.{test, clean, judge};
 ghost use Rattle.machine.specs.Machine.{formed};
@@ -11,7 +11,7 @@ use channel::rule;
 use checks::{answered, tested, unjudged};
 use fees::charged;
 use holdings::sound_channel;
-use machine::{Answer, Book, Cents, Context, Judged, LIMIT, Seconds, Stepped};
+use machine::{Answer, Book, Cents, Channel, Context, Judged, LIMIT, Seconds, Stepped};
 use wire::{u16_at, u64_at};
 
 const SIZES: [usize; 11] = [0, 9, 135, 11, 11, 1455, 2923, 2955, 1455, 1487, 3];
@@ -69,11 +69,17 @@ fn set_clock(clock: Seconds, time: u64) -> Clocked
     }
 }
 
-// A command on a book: the book that it leaves, and its answer. A refused rule leaves the channel that stood there.
-// The book is tested and changed in place and returned at one place, so that the step makes no copy of it.
-pub fn step(mut book: Book, command: &[u8]) -> Stepped
-    ensures { result ≡ real_step book command.now }
+// How many channels a book has: known of an array that is lent by itself, and not of one inside a lent struct.
+fn has_64(channels: &[Channel; 64])
+    ensures { length channels.now ≡ 64 }
+{}
+
+// A command on a lent book: it is changed in place, and the answer given. A refused rule leaves the channel that stood there.
+pub fn carry_out(book: &mut Book, command: &[u8]) -> Answer
+    ensures answer { result ≡ (real_step book.old command.now).answer }
+    ensures book { book.new ≡ (real_step book.old command.now).book }
 {
+    has_64(&book.channels);
     let mut steady = sound_header(book.mark, book.setup, book.clock);
     for i in 0..64 {
         let ch = book.channels[i];
@@ -107,5 +113,13 @@ pub fn step(mut book: Book, command: &[u8]) -> Stepped
             }
         }
     }
+    answer
+}
+
+// A command on a book: the book that it leaves, and its answer.
+pub fn step(mut book: Book, command: &[u8]) -> Stepped
+    ensures { result ≡ real_step book command.now }
+{
+    let answer = carry_out(&mut book, command);
     Stepped { book, answer }
 }

@@ -200,10 +200,7 @@ pub extern "C" fn finaruvom_make_key(signer: &mut Signer, seed: &[u8], id: &[u8]
     ensures { (result ≡ (make_of seed.now id.now).refusal)
         × (signer.new ≡ (make_of seed.now id.now).signer) }
 {
-    let lent = *signer;
-    let made = signer::made(lent, seed, id);
-    *signer = made.signer;
-    made.refusal
+    signer::make(signer, seed, id)
 }
 
 // Signs with the lent signer's next leaf and moves it to the one after, or refuses with zeros and keeps every value: 2 for a nonce that is not 32 bytes long or a
@@ -213,10 +210,7 @@ pub extern "C" fn finaruvom_sign(signer: &mut Signer, nonce: &[u8], message: &[u
     ensures { (result ≡ (sign_of signer.old nonce.now message.now).signature)
         × (signer.new ≡ (sign_of signer.old nonce.now message.now).signer) }
 {
-    let lent = *signer;
-    let signed = signer::signed(lent, nonce, message);
-    *signer = signed.signer;
-    signed.signature
+    signer::sign(signer, nonce, message)
 }
 
 // Collects the payments above zero of commands and their lines: 18 where the list is too short for them; refused, it keeps every entry.

@@ -7,7 +7,7 @@ mod signing;
 mod state;
 mod strings;
 
-pub use making::made;
-pub use signing::signed;
+pub use making::{made, make};
+pub use signing::{sign, signed};
 pub use state::{MadeKey, Node, Signature, SignedMessage, Signer};
 pub use strings::leaf_public;

@@ -17,12 +17,12 @@ fn node_value(id: [u8; 16], seed: [u8; 32], r: u32, left: [u8; 32], right: [u8; 
     }
 }
 
-// The whole tree. What is read as the children of a leaf does not count.
-pub fn tree_of(id: [u8; 16], seed: [u8; 32]) -> [Node; 2048]
-    ensures { result ≡ nodes_of seed id }
+// The whole tree, over lent nodes. What is read as the children of a leaf does not count.
+pub fn tree_of(nodes: &mut [Node; 2048], id: [u8; 16], seed: [u8; 32])
+    ensures { nodes.new ≡ nodes_of seed id }
 {
     let none = Node { value: [0u8; 32] };
-    let mut nodes = [none; 2048];
+    *nodes = [none; 2048];
     let mut r: usize = 2047;
     while 0 < r {
         let left = nodes[2 * r % 2048];
@@ -33,5 +33,4 @@ pub fn tree_of(id: [u8; 16], seed: [u8; 32]) -> [Node; 2048]
         nodes[r] = Node { value: value };
         r -= 1;
     }
-    nodes
 }

@@ -53,9 +53,9 @@ fn sibling(node: usize) -> usize
 }
 
 // The nodes of the path from a signer's next leaf.
-fn path_of(signer: Signer) -> [Node; 10]
-    requires { signer.next < 1024 }
-    ensures { (i : ℕ) → i < 10 → node_value result i ≡ path_of signer.nodes signer.next i }
+fn path_of(signer: &Signer) -> [Node; 10]
+    requires { signer.now.next < 1024 }
+    ensures { (i : ℕ) → i < 10 → node_value result i ≡ path_of signer.now.nodes signer.now.next i }
 {
     let none = Node { value: [0u8; 32] };
     let mut path = [none; 10];
@@ -123,8 +123,8 @@ fn refused(refusal: u32) -> Signature
 
 // What a signing answers.
 #[tactic(auto, using(crate::proofs::Answered::sign_nonce, crate::proofs::Answered::sign_long, crate::proofs::Answered::sign_none))]
-fn answer(signer: Signer, nonce: &[u8], message: &[u8]) -> Signature
-    ensures { result ≡ (sign_of signer nonce.now message.now).signature }
+fn answer(signer: &Signer, nonce: &[u8], message: &[u8]) -> Signature
+    ensures { result ≡ (sign_of signer.now nonce.now message.now).signature }
 {
     if nonce.len() != 32 {
         return refused(2);
@@ -150,14 +150,23 @@ fn next_after(refusal: u32, next: u32) -> u32
     if refusal == 0 { next + 1 } else { next }
 }
 
-// Signs a message of at most 1,024 bytes with a C of 32 and the signer's next leaf, and moves to the next. Another length is refused with 2, and then a
-// next leaf of 1,024 or more with 15.
+// Signs a message of at most 1,024 bytes with a C of 32 and the lent signer's next leaf, and moves it to the next. Another length is refused with 2, and then a
+// next leaf of 1,024 or more with 15; refused, the signer keeps every value.
+pub fn sign(signer: &mut Signer, nonce: &[u8], message: &[u8]) -> Signature
+    ensures signature { result ≡ (sign_of signer.old nonce.now message.now).signature }
+    ensures signer { signer.new ≡ (sign_of signer.old nonce.now message.now).signer }
+{
+    let signature = answer(signer, nonce, message);
+    signer.next = next_after(signature.refusal, signer.next);
+    signature
+}
+
+// The same by value.
 pub fn signed(signer: Signer, nonce: &[u8], message: &[u8]) -> SignedMessage
     ensures { result ≡ sign_of signer nonce.now message.now }
 {
-    let signature = answer(signer, nonce, message);
     let mut left = signer;
-    left.next = next_after(signature.refusal, signer.next);
+    let signature = sign(&mut left, nonce, message);
     SignedMessage {
         signer: left,
         signature,

@@ -27,7 +27,7 @@ loop-i-init c = (refl, omega arith, omega arith, λ k l. absurd (omega arith))
 pub loop-i-preserved : goal.loop-i-preserved
 loop-i-preserved c =
     let l = c.loop-i in
-    let s = c.args.signer in
+    let s = c.args.signer.now in
     let e = ap (node_value s.nodes) (c.sibling.ensures.0 ∙ ap sibling_of l.invariant.1) in (
       length-set l.path l.i _ ∙ l.invariant.0,
       ap (λ (k : ℕ). k / 2) l.invariant.1 ∙ half (1024 + s.next) l.i ∙ ap (λ (k : ℕ). (1024 + s.next) / 2 ^ k) (sym (add-one l.i)),
