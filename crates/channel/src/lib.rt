@@ -14,6 +14,7 @@ use machine::{Cents, Channel, Context, Ruled};
 use wire::u64_at;
 
 // What a command 02 to 0A makes of its channel.
+#[tactic(auto, unfolding(machine::specs::Format::size, machine::specs::Machine::plan))]
 pub fn rule(op: u8, ch: Channel, at: Context, command: &[u8]) -> Ruled
     requires { (2 ≤ op) × (op ≤ 10) × (length command.now ≡ size op) × (sound_channel ch ≡ true) × (at.clock.0 ≤ limit) }
     ensures { result ≡ ruling ch (plan lms_verdict sha256 op at command.now ch) }

@@ -41,7 +41,7 @@ pub charged-answer-requires : goal.charged-answer-requires
 charged-answer-requires c =
     let k = checked c.args.book c.args.command.now _ _ _ (search rules) c.loop-i.invariant c.loop-i-test.false c.shared_checks-j.ensures.value in
     let h = shared_ok c.args.book c.args.command.now _ k c.if-j-eq0.true in
-    (setup_limits c.args.book.setup (sound_context _ h.steady).0).1
+    omega (arith, (setup_limits c.args.book.setup (sound_context _ h.steady).0).1)
 
 -- A 01.
 pub returns-then-op-eq1 : goal.returns-then-op-eq1
