@@ -1,5 +1,5 @@
 -- Bytes that are read to a place, and what they say of all the bytes that a reader had.
-use Rattle.std.proofs.Common.{◌≡◌, ℕ, ◌+◌, ◌≤◌, ◌⊎◌, inl, inr, List, [], ◌++◌, Option, None, Some, IfSome, refl, sym, ap, ◌∙◌, subst, append-nil, arith, length, take}
+use Rattle.std.proofs.Common.{◌≡◌, ℕ, ◌+◌, ◌≤◌, ◌⊎◌, inl, inr, List, [], ◌++◌, Option, None, Some, IfSome, sym, ap, ◌∙◌, subst, append-nil, arith, length, take}
 use borrow.Rule.Slice.PartMut.{put_mid, post_of}
 use lib.ListN.{length-take}
 use lib.Seq.{take_all, take-append-add, take-append-le}

@@ -1,4 +1,4 @@
-use Rattle.std.proofs.Common.{◌≡◌, true, false, [], subst}
+use Rattle.std.proofs.Common.{[], subst}
 use borrow.Author.Tests.{not-true, not-false}
 use Rattle.std.specs.Io.KnownBytes.{Appends}
 use Rattle.std.proofs.KnownBytes.{Appends-nil, Appends-trans}
@@ -14,7 +14,7 @@ returns-then-not-part g c _ =
     let e = all_said _ said c.loop-part.part (not-true _ c.if-not-part.true) ahead in
     subst (Appends _ _) e (Appends-trans _ _ _ said _ appended (c.print.ensures c.if-not-print.false))
 
-pub next_part-following-requires : goal.next_part-following-requires-clause-old
+pub next_part-following-requires : goal.next_part-following-requires
 next_part-following-requires g c =
     let (said, ahead, appended) = c.loop-part.invariant in
     let k = ahead.goes_on (not-false _ c.if-not-part.false) in
