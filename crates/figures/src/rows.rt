@@ -4,19 +4,20 @@ ghost use Rattle.std.specs.Prelude.{◌≡◌, ◌+◌, ◌≤◌, length};
 use crate::book::overwritten;
 use crate::lines::{print_answer, print_due, print_opened, print_reading};
 use arbiter::{Book, Settings};
+use std::io;
 use wire::{u16_at, u32_at};
 
 // An opening, with the row's bytes as the id.
-fn open_row(rt: &impl Print, book: Book, bytes: &[u8]) -> Book {
+fn open_row(rt: &impl Print, book: Book, bytes: &[u8]) -> io::Result<Book> {
     let opened = arbiter::opened(book, bytes);
-    print_opened(rt, opened.refusal);
-    opened.book
+    print_opened(rt, opened.refusal)?;
+    Ok(opened.book)
 }
 
 // An opening with settings and no list of dates: four bytes of default delay, four of fee, then the id. A number that is no date stands there unseen.
-fn open_with_row(rt: &impl Print, book: Book, bytes: &[u8]) -> Book {
+fn open_with_row(rt: &impl Print, book: Book, bytes: &[u8]) -> io::Result<Book> {
     if bytes.len() < 8 {
-        return book;
+        return Ok(book);
     }
     let settings = Settings {
         delay: u32_at(bytes, 0),
@@ -25,8 +26,8 @@ fn open_with_row(rt: &impl Print, book: Book, bytes: &[u8]) -> Book {
     };
     let unseen = [0u32; 1];
     let opened = arbiter::opened_with(book, &bytes[8..], settings, &unseen);
-    print_opened(rt, opened.refusal);
-    opened.book
+    print_opened(rt, opened.refusal)?;
+    Ok(opened.book)
 }
 
 // The numbers of four bytes each from the place 24 on.
@@ -43,12 +44,12 @@ fn dates_in(bytes: &[u8]) -> [u32; 72]
 }
 
 // The same with a list: the default delay, the fee, an id of 16 bytes, then four bytes for each of at most 72 dates.
-fn open_dated_row(rt: &impl Print, book: Book, bytes: &[u8]) -> Book {
+fn open_dated_row(rt: &impl Print, book: Book, bytes: &[u8]) -> io::Result<Book> {
     if bytes.len() < 24 {
-        return book;
+        return Ok(book);
     }
     if bytes.len() > 312 {
-        return book;
+        return Ok(book);
     }
     let dates = dates_in(bytes);
     let count = (bytes.len() - 24) / 4;
@@ -58,29 +59,29 @@ fn open_dated_row(rt: &impl Print, book: Book, bytes: &[u8]) -> Book {
         dated: true,
     };
     let opened = arbiter::opened_with(book, &bytes[8..24], settings, &dates[..count]);
-    print_opened(rt, opened.refusal);
-    opened.book
+    print_opened(rt, opened.refusal)?;
+    Ok(opened.book)
 }
 
 // The row's bytes as a command.
-fn command_row(rt: &impl Print, book: Book, bytes: &[u8]) -> Book {
+fn command_row(rt: &impl Print, book: Book, bytes: &[u8]) -> io::Result<Book> {
     let stepped = arbiter::step(book, bytes);
     let answer = stepped.answer;
-    print_answer(rt, answer);
-    stepped.book
+    print_answer(rt, answer)?;
+    Ok(stepped.book)
 }
 
 // A reading of the channel that two bytes name.
-fn reading_row(rt: &impl Print, book: Book, bytes: &[u8]) {
+fn reading_row(rt: &impl Print, book: Book, bytes: &[u8]) -> io::Result<()> {
     if bytes.len() != 2 {
-        return;
+        return Ok(());
     }
     let reading = arbiter::read_of(book, u16_at(bytes, 0) as usize);
-    print_reading(rt, reading);
+    print_reading(rt, reading)
 }
 
 // What a row makes of the book.
-fn row(rt: &impl Print, book: Book, kind: u8, bytes: &[u8]) -> Book {
+fn row(rt: &impl Print, book: Book, kind: u8, bytes: &[u8]) -> io::Result<Book> {
     if kind == 1 {
         return open_row(rt, book, bytes);
     }
@@ -88,12 +89,12 @@ fn row(rt: &impl Print, book: Book, kind: u8, bytes: &[u8]) -> Book {
         return command_row(rt, book, bytes);
     }
     if kind == 3 {
-        reading_row(rt, book, bytes);
-        return book;
+        reading_row(rt, book, bytes)?;
+        return Ok(book);
     }
     if kind == 4 {
-        print_due(rt, arbiter::due_of(book));
-        return book;
+        print_due(rt, arbiter::due_of(book))?;
+        return Ok(book);
     }
     if kind == 6 {
         return open_with_row(rt, book, bytes);
@@ -101,7 +102,7 @@ fn row(rt: &impl Print, book: Book, kind: u8, bytes: &[u8]) -> Book {
     if kind == 8 {
         return open_dated_row(rt, book, bytes);
     }
-    overwritten(book, bytes)
+    Ok(overwritten(book, bytes))
 }
 
 // Where the row that begins at `at` ends; `at` where no whole row begins there.
@@ -122,35 +123,36 @@ fn row_end(m: &[u8], at: usize) -> usize
 }
 
 // A row of m, or once more the row that begins at the place in its four bytes.
-fn row_of(rt: &impl Print, book: Book, m: &[u8], kind: u8, bytes: &[u8]) -> Book {
+fn row_of(rt: &impl Print, book: Book, m: &[u8], kind: u8, bytes: &[u8]) -> io::Result<Book> {
     if kind != 7 {
         return row(rt, book, kind, bytes);
     }
     if bytes.len() != 4 {
-        return book;
+        return Ok(book);
     }
     let at = u32_at(bytes, 0) as usize;
     if at >= m.len() {
-        return book;
+        return Ok(book);
     }
     let end = row_end(m, at);
     if end - at < 3 {
-        return book;
+        return Ok(book);
     }
     row(rt, book, m[at], &m[at + 3..end])
 }
 
 // Runs every whole row of m, on a book to lend.
-pub fn run(rt: &impl Print, m: &[u8]) {
+pub fn run(rt: &impl Print, m: &[u8]) -> io::Result<()> {
     let mut book = arbiter::blank();
     let mut at: usize = 0;
     while at < m.len() {
         let end = row_end(m, at);
         if end - at < 3 {
-            return;
+            return Ok(());
         }
-        let next = row_of(rt, book, m, m[at], &m[at + 3..end]);
+        let next = row_of(rt, book, m, m[at], &m[at + 3..end])?;
         book = next;
         at = end;
     }
+    Ok(())
 }

@@ -5,6 +5,7 @@ ghost use Rattle.std.specs.Prelude.{◌≤◌, length};
 use crate::lines::{print_checks, print_leaf, print_made, print_root, print_signed};
 use crate::small_tree::root;
 use signer::{Node, Signer};
+use std::io;
 use wire::{digest_at, id_at, u16_at, u32_at};
 
 // A signer to lend to the first key making. No byte of it is 0.
@@ -20,53 +21,59 @@ fn any_signer() -> Signer {
 }
 
 // The root of a small tree, by a seed and an identifier.
-fn root_row(rt: &impl Print, seed: &[u8], id: &[u8]) {
+fn root_row(rt: &impl Print, seed: &[u8], id: &[u8]) -> io::Result<()> {
     if seed.len() != 32 {
-        return;
+        return Ok(());
     }
     if id.len() != 16 {
-        return;
+        return Ok(());
     }
-    print_root(rt, root(id_at(id, 0), digest_at(seed, 0)));
+    print_root(rt, root(id_at(id, 0), digest_at(seed, 0)))
 }
 
 // A key making, by a seed and an identifier.
-fn make_row(rt: &impl Print, signer: Signer, seed: &[u8], id: &[u8]) -> Signer {
+fn make_row(rt: &impl Print, signer: Signer, seed: &[u8], id: &[u8]) -> io::Result<Signer> {
     let made = signer::made(signer, seed, id);
-    print_made(rt, made);
-    made.signer
+    print_made(rt, made)?;
+    Ok(made.signer)
 }
 
 // A signing, by a C and a message; what was signed is checked under the signer's key.
-fn sign_row(rt: &impl Print, signer: Signer, nonce: &[u8], message: &[u8]) -> Signer {
+fn sign_row(rt: &impl Print, signer: Signer, nonce: &[u8], message: &[u8]) -> io::Result<Signer> {
     let signed = signer::signed(signer, nonce, message);
     let after = signed.signer;
     let signature = signed.signature;
-    print_signed(rt, after.next, signature);
+    print_signed(rt, after.next, signature)?;
     if signature.refusal == 0 {
         let key = signer.key;
         let bytes = signature.bytes;
-        print_checks(rt, key, message, bytes);
+        print_checks(rt, key, message, bytes)?;
     }
-    after
+    Ok(after)
 }
 
 // The next leaf, in four bytes, set from outside.
-fn leaf_row(rt: &impl Print, signer: Signer, leaf: &[u8]) -> Signer {
+fn leaf_row(rt: &impl Print, signer: Signer, leaf: &[u8]) -> io::Result<Signer> {
     if leaf.len() != 4 {
-        return signer;
+        return Ok(signer);
     }
     let mut after = signer;
     after.next = u32_at(leaf, 0);
-    print_leaf(rt, after.next);
-    after
+    print_leaf(rt, after.next)?;
+    Ok(after)
 }
 
 // What a row makes of the signer.
-fn row(rt: &impl Print, signer: Signer, kind: u8, first: &[u8], second: &[u8]) -> Signer {
+fn row(
+    rt: &impl Print,
+    signer: Signer,
+    kind: u8,
+    first: &[u8],
+    second: &[u8],
+) -> io::Result<Signer> {
     if kind == 1 {
-        root_row(rt, first, second);
-        return signer;
+        root_row(rt, first, second)?;
+        return Ok(signer);
     }
     if kind == 2 {
         return make_row(rt, signer, first, second);
@@ -95,20 +102,21 @@ fn field_end(m: &[u8], at: usize) -> usize
 }
 
 // Runs every whole row of m.
-pub fn run(rt: &impl Print, m: &[u8]) {
+pub fn run(rt: &impl Print, m: &[u8]) -> io::Result<()> {
     let mut signer = any_signer();
     let mut at: usize = 0;
     while at < m.len() {
         let middle = field_end(m, at + 1);
         if middle - at < 3 {
-            return;
+            return Ok(());
         }
         let end = field_end(m, middle);
         if end - middle < 2 {
-            return;
+            return Ok(());
         }
-        let next = row(rt, signer, m[at], &m[at + 3..middle], &m[middle + 2..end]);
+        let next = row(rt, signer, m[at], &m[at + 3..middle], &m[middle + 2..end])?;
         signer = next;
         at = end;
     }
+    Ok(())
 }
