@@ -1,20 +1,21 @@
 // Standard output and standard error.
-ghost use Rattle.std.specs.Prelude.{IsTrue};
+ghost use Rattle.std.specs.Prelude.{OnOk};
 ghost use Rattle.std.specs.Io.KnownBytes.{Appends};
 ghost use Rattle.io.specs.Counts.{IsPrefixLen};
 ghost use Rattle.report.specs.Parts.{shown};
 
 use report::Text;
+use std::io;
 use std::io::Write;
 
-// Writes a text, and answers whether it was taken: a closed output takes none.
-pub fn print<W: Write>(output: &mut W, text: Text) -> bool
+// Writes a text: a closed output takes none.
+pub fn print<W: Write>(output: &mut W, text: Text) -> io::Result<()>
     requires { IsPrefixLen text.size text.bytes }
-    ensures { IsTrue result → Appends (W.contents output.old) (W.contents output.new) (shown text) }
+    ensures { OnOk result (Appends (W.contents output.old) (W.contents output.new) (shown text)) }
 {
     let bytes = text.bytes;
     let n = text.size;
-    output.write_all(&bytes[..n]).is_ok()
+    output.write_all(&bytes[..n])
 }
 
 // Says what went wrong.

@@ -5,28 +5,28 @@ use Rattle.std.proofs.KnownBytes.{Appends-nil, Appends-trans}
 use Rattle.report.proofs.Ahead.{first_ahead, next_ahead, all_said, left_less}
 use Rattle.statement.proofs.printing.print_statement.Goals as goal
 
-pub loop-part-init : goal.loop-part-init
-loop-part-init g c = rw c.first_part-part.ensures ([], first_ahead _, Appends-nil _)
+pub loop-next-init : goal.loop-next-init
+loop-next-init g c = rw c.first_part-part.ensures ([], first_ahead _, Appends-nil _)
 
 pub returns-then-not-part : goal.returns-then-not-part
-returns-then-not-part g c _ =
-    let (said, ahead, appended) = c.loop-part.invariant in
-    let e = all_said _ said c.loop-part.part (not-true _ c.if-not-part.true) ahead in
-    subst (Appends _ _) e (Appends-trans _ _ _ said _ appended (c.print.ensures c.if-not-print.false))
+returns-then-not-part g c =
+    let (said, ahead, appended) = c.loop-next.invariant in
+    let e = all_said _ said c.loop-next.part (not-true _ c.if-not-part.true) ahead in
+    subst (Appends _ _) e (Appends-trans _ _ _ said _ appended c.in_ok-print.ensures)
 
 pub next_part-following-requires : goal.next_part-following-requires
 next_part-following-requires g c =
-    let (said, ahead, appended) = c.loop-part.invariant in
+    let (said, ahead, appended) = c.loop-next.invariant in
     let k = ahead.goes_on (not-false _ c.if-not-part.false) in
     (k.0, k.1)
 
-pub loop-part-smaller : goal.loop-part-smaller
-loop-part-smaller g c =
-    let (said, ahead, appended) = c.loop-part.invariant in
-    rw c.next_part-following.ensures (left_less _ said c.loop-part.part (not-false _ c.if-not-part.false) ahead)
+pub loop-next-smaller : goal.loop-next-smaller
+loop-next-smaller g c =
+    let (said, ahead, appended) = c.loop-next.invariant in
+    rw c.next_part-following.ensures (left_less _ said c.loop-next.part (not-false _ c.if-not-part.false) ahead)
 
-pub loop-part-preserved : goal.loop-part-preserved
-loop-part-preserved g c =
-    let (said, ahead, appended) = c.loop-part.invariant in
-    let next = next_ahead _ said c.loop-part.part (not-false _ c.if-not-part.false) ahead in
-    rw c.next_part-following.ensures (_, next, Appends-trans _ _ _ said _ appended (c.print.ensures c.if-not-print.false))
+pub loop-next-preserved : goal.loop-next-preserved
+loop-next-preserved g c =
+    let (said, ahead, appended) = c.loop-next.invariant in
+    let next = next_ahead _ said c.loop-next.part (not-false _ c.if-not-part.false) ahead in
+    rw c.next_part-following.ensures (_, next, Appends-trans _ _ _ said _ appended c.in_ok-print.ensures)

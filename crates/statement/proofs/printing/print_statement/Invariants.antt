@@ -4,8 +4,8 @@ use Rattle.std.specs.Io.KnownBytes.{Appends}
 use Rattle.report.proofs.Ahead.{Ahead, left}
 use Rattle.statement.proofs.printing.print_statement.Given as goal
 
-abbrev pub invariant-loop-part : goal.invariant-loop-part
-invariant-loop-part g l = (said : List ℕ) × Ahead l.input said l.part × Appends (g.W.Write.contents l.initial.output) (g.W.Write.contents l.output) said
+abbrev pub invariant-loop-next : goal.invariant-loop-next
+invariant-loop-next g l = (said : List ℕ) × Ahead l.input said l.part × Appends (g.W.Write.contents l.initial.output) (g.W.Write.contents l.output) said
 
-abbrev pub decreases-loop-part : goal.decreases-loop-part
-decreases-loop-part g l = left l.input l.part
+abbrev pub decreases-loop-next : goal.decreases-loop-next
+decreases-loop-next g l = left l.input l.part
