@@ -1,4 +1,4 @@
-// The calls on a lent book: thin entries over the forms by value.
+// The calls on a lent book: thin entries over what changes it in place or takes it by value.
 ghost use Rattle.std.specs.Prelude.{◌≡◌};
 ghost use Rattle.machine.specs.Book.{reading};
 ghost use Rattle.machine.specs.Opening.{under, plainly, opening};

@@ -1,4 +1,4 @@
-// One command on one book, by value: whether the book is sound, the checks that all commands share, and the step.
+// One command on one book, lent or by value: whether the book is sound, the checks that all commands share, and the step.
 #![tactic(auto)]
 
 mod soundness;

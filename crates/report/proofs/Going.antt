@@ -17,9 +17,9 @@ use Rattle.report.specs.declared.texts.Text.{Text}
 use Rattle.report.specs.Statement.{no_line, no_lines}
 use Rattle.report.specs.Parts.{stored, text_of, part_of, ran_from}
 
-pub length-no_lines : (n : ℕ) → length (no_lines n) ≡ n
+pub length_no_lines : (n : ℕ) → length (no_lines n) ≡ n
 unfolding no_lines
-length-no_lines n = length-replicate n no_line
+length_no_lines n = length-replicate n no_line
 
 -- How far it goes.
 pub record Goes (cs : List ℕ) (x : Reached) (d : Done) : Type 0 where
@@ -31,7 +31,7 @@ pub record Goes (cs : List ℕ) (x : Reached) (d : Done) : Type 0 where
 pub goes : (cs : List ℕ) (x : Reached) → x.used ≤ length cs → Goes cs x (ran_from cs x)
 goes cs x h =
     let k = run_bounds (no_lines 64) x.book (drop x.used cs) in
-    let n = length-no_lines 64 in
+    let n = length_no_lines 64 in
     let l = length-drop x.used cs in
     record {
       lines = omega (arith, k.lines);

@@ -18,7 +18,7 @@ use Rattle.report.specs.Lines.{lines_from, end_line, no_book, too_long}
 use Rattle.report.specs.Statement.{no_lines, journal_text, opened_by, statement_of, NoFurther}
 use Rattle.report.specs.Parts.{stored, shown, begun, whole, text_of, ran_from, first_part, next_part, parts_from, printed, open_ended, PartsMean}
 use Rattle.report.proofs.Buffers.{shown_stored}
-use Rattle.report.proofs.Going.{length-no_lines}
+use Rattle.report.proofs.Going.{length_no_lines}
 use Rattle.report.proofs.RunTexts.{ran_text, by_last, by_more, from_start}
 
 -- ---- the parts after the first
@@ -94,7 +94,7 @@ module _ (m : ℕ) (cs : List ℕ) where
   joins (suc n) x f h = either (eqb (r x h).cause 13) refl (λ e. joins n (p x h).next (omega (arith, moves e)) (omega (arith, moves e)))
     where
       moves : (r x h).cause ≡ 13 → 0 < (r x h).used
-      moves e = (run_bounds (no_lines 64) x.book (drop x.used cs)).moves e (omega (arith, length-no_lines 64))
+      moves e = (run_bounds (no_lines 64) x.book (drop x.used cs)).moves e (omega (arith, length_no_lines 64))
 
       either : (y : Bool) → eqb (r x h).cause 13 ≡ y → ((r x h).cause ≡ 13 → Means (parts_from n cs (next_part cs (p x h).next)) (rest_text (p x h).next)) → Means (parts_from (suc n) cs (p x h)) (rest_text x)
       either true e k = let c = eqb-true (r x h).cause 13 e in is_followed x h n c (k c)

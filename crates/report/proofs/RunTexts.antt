@@ -14,7 +14,7 @@ use Rattle.journal.proofs.Bounds.{run_bounds}
 use Rattle.journal.proofs.Continued.{run_continued}
 use Rattle.report.specs.Lines.{lines_from, end_line}
 use Rattle.report.specs.Statement.{no_line, no_lines, run_text, JournalMeans}
-use Rattle.report.proofs.Going.{length-no_lines}
+use Rattle.report.proofs.Going.{length_no_lines}
 
 -- Its lines, numbered from n on, and its end, u bytes having been used before.
 abbrev pub ran_text : ℕ → ℕ → Done → List ℕ
@@ -44,7 +44,7 @@ of_resumed n u d e h =
 module _ (b : Book) (cs : List ℕ) where
   -- As many lines as bytes are enough.
   never_short : (m : ℕ) → length cs ≤ m → (run_of b cs (no_lines m)).cause ≡ 13 → ⊥
-  never_short m h = (run_continued b cs (no_lines m) []).enough (omega (arith, length-no_lines m))
+  never_short m h = (run_continued b cs (no_lines m) []).enough (omega (arith, length_no_lines m))
 
   no_lines_add : (m k : ℕ) → no_lines m ++ no_lines k ≡ no_lines (m + k)
   unfolding no_lines
@@ -87,7 +87,7 @@ from_start d = rw (zero-add d.used)
 alike : (b : Book) (cs : List ℕ) (ls : List Line) → run_text (run_of b cs ls) ≡ run_text (run_of b cs (no_lines (length ls)))
 unfolding run_text
 alike b cs ls =
-    ap (λ (d : Done). lines_from 1 d.lines ++ end_line d.used d.cause) ((run_continued b cs ls (no_lines (length ls))).alike (sym (length-no_lines (length ls))))
+    ap (λ (d : Done). lines_from 1 d.lines ++ end_line d.used d.cause) ((run_continued b cs ls (no_lines (length ls))).alike (sym (length_no_lines (length ls))))
 
 pub journal_means : (b : Book) (cs : List ℕ) → JournalMeans b cs
 journal_means b cs =
