@@ -1,6 +1,6 @@
-// How often each call copies the book, the signer or the list, and how much stack it takes, held to limits: a command copies the book out of the lender's
-// memory and back, and no more, an opening copies it in, a list is not copied, and the stack is what the header says. A further copy that the compiler wrote
-// without a call would show on the stack. With --short it makes no key, which takes seconds.
+// How often each call copies the book, the signer or the list, and how much stack it takes, held to limits: a command, a key making and a signing change
+// what is lent in place and copy none of it, a reading copies the book twice, an opening copies it in, a list is not copied, and the stack is what the header
+// says. A further copy that the compiler wrote without a call would show on the stack. With --short it makes no key, which takes seconds.
 #define _XOPEN_SOURCE 700
 #include "../bench/copied.h"
 #include "../bench/dates.h"
@@ -10,7 +10,7 @@
 #include <string.h>
 #include <ucontext.h>
 
-enum { N = 5, CLOCK = 1000, FEE = 250, STACK = 1 << 19, PAINT = 0xA5, MUTUAL = 5, MAKING_COPIES = 1, SIGNING_COPIES = 3 };
+enum { N = 5, CLOCK = 1000, FEE = 250, STACK = 1 << 19, PAINT = 0xA5, MUTUAL = 5, MAKING_COPIES = 0, SIGNING_COPIES = 0 };
 enum { SETTLES = 1024, PAYMENTS = 2 * SETTLES, DATES = 1000, MOVED = DAY_BEHIND * 86400 };
 
 // What a call is lent, how often it copies that at most, and how many bytes it copies in all; a signature check copies some 2,500, a key
@@ -20,6 +20,7 @@ struct lent {
     size_t copies, bytes;
 };
 static const struct lent lent_book = {"book", 2, 2 * FINARUVOM_BOOK_SIZE + 7168};
+static const struct lent lent_in_place = {"book", 0, 7168};
 static const struct lent lent_to_open = {"book", 1, FINARUVOM_BOOK_SIZE + 4096};
 static const struct lent lent_to_make = {"signer", MAKING_COPIES, MAKING_COPIES * FINARUVOM_SIGNER_SIZE + 800 * FINARUVOM_LEAVES};
 static const struct lent lent_to_sign = {"signer", SIGNING_COPIES, SIGNING_COPIES * FINARUVOM_SIGNER_SIZE + 4096};
@@ -340,7 +341,7 @@ static void commands(void) {
         if (row->fits)
             fit_keys(row->signature_at);
         refusal = row->refusal, fee = row->fee, fits = row->fits;
-        measure(row->name, apply, refused, 1, FINARUVOM_STACK_APPLY);
+        measure_lent(&lent_in_place, row->name, apply, refused, 1, FINARUVOM_STACK_APPLY);
     }
     fits = false;
 }
@@ -363,10 +364,10 @@ int main(int argc, char **argv) {
     printf("a first call takes %zu bytes of stack more\n", binding);
     commands();
     fill(5, CLOCK);
-    measure("a run, each settle", run, ran_all, 3, FINARUVOM_STACK_RUN);
+    measure_lent(&lent_in_place, "a run, each settle", run, ran_all, 3, FINARUVOM_STACK_RUN);
     fill(3, 0);
     file(&rows[MUTUAL]);
-    measure("a run of an 06", run_filed, ran_filed, 1, FINARUVOM_STACK_RUN);
+    measure_lent(&lent_in_place, "a run of an 06", run_filed, ran_filed, 1, FINARUVOM_STACK_RUN);
     keeps_no_list(measure("check", check, answered_0, 1, FINARUVOM_STACK_CHECK));
     measure("hash", hash, answered_0, 1, FINARUVOM_STACK_HASH);
     fill(5, CLOCK);

@@ -11,7 +11,7 @@ struct finaruvom_signature finaruvom_sign(struct finaruvom_signer *signer, const
     memcpy(&copy, signer, sizeof copy);
 #endif
 #ifdef DEEP
-    volatile uint8_t room[sizeof *signer];
+    volatile uint8_t room[FINARUVOM_STACK_SIGN];
     (void)room;
 #endif
 #ifdef LONGER_NONCE
