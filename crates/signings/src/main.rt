@@ -6,18 +6,12 @@ mod lines;
 mod rows;
 mod small_tree;
 
-use inputs::read_full;
-use std::io::ErrorKind;
 use std::process::ExitCode;
+use streams::{read_full, status_after};
 
-// A closed output ends the program without a word, with the status that a shell gives for the signal of a closed pipe.
-const CLOSED: u8 = 128 + 13;
-
+// A closed output ends the program without a word.
 fn main(rt: HostRuntime) -> ExitCode {
     let mut input = [0u8; 65536];
     let n = read_full(&mut rt.stdin(), &mut input);
-    match rows::run(&rt, &input[..n]) {
-        Err(e) if e.kind() == ErrorKind::BrokenPipe => ExitCode::from(CLOSED),
-        _ => ExitCode::SUCCESS,
-    }
+    ExitCode::from(status_after(rows::run(&rt, &input[..n])))
 }

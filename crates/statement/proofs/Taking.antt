@@ -1,22 +1,10 @@
--- Bytes that are read to a place, and what they say of all the bytes that a reader had.
+-- What the bytes that were read say of all the bytes that a reader had.
 use Rattle.std.proofs.Common.{◌≡◌, ℕ, ◌+◌, ◌≤◌, ◌⊎◌, inl, inr, List, [], ◌++◌, Option, None, Some, IfSome, sym, ap, ◌∙◌, subst, append-nil, arith, length, take}
-use borrow.Rule.Slice.PartMut.{put_mid, post_of}
-use lib.ListN.{length-take}
-use lib.Seq.{take_all, take-append-add, take-append-le}
+use lib.Seq.{take_all, take-append-le}
+use Rattle.streams.proofs.Taking.{length_take}
 use Rattle.std.specs.Io.KnownBytes.{Appends, Consumes, IsAtEnd}
 use Rattle.report.specs.Statement.{statement_of}
 use Rattle.report.proofs.Joined.{no_further}
-
-length_take : (n : ℕ) (xs : List ℕ) → n ≤ length xs → length (take n xs) ≡ n
-length_take n xs h = length-take n xs ∙ omega arith
-
--- After a read to place n, of m bytes.
-pub taken_on : (n k m : ℕ) (xs ys : List ℕ) → n ≤ length xs → m ≤ length ys → take (n + m) (put_mid n k xs ys) ≡ take n xs ++ take m ys
-taken_on n k m xs ys h b =
-    let after = post_of n k xs in
-    ap (λ (i : ℕ). take (i + m) (put_mid n k xs ys)) (sym (length_take n xs h))
-    ∙ take-append-add (take n xs) (ys ++ after) m
-    ∙ ap (λ (l : List ℕ). take n xs ++ l) (take-append-le m ys after b)
 
 -- The first n bytes have the statement of all that there are: n is 65,537, or there are no more.
 same_statement : (xs buf rest : List ℕ) (room n : ℕ) → 65537 ≡ room → n ≤ length buf → xs ≡ take n buf ++ rest

@@ -7,15 +7,13 @@ mod printing;
 mod stating;
 
 use crate::stating::{Failure, state};
-use std::io::ErrorKind;
 use std::process::ExitCode;
+use streams::status_after;
 
-// A closed output ends the program without a word, with the status that a shell gives for the signal of a closed pipe.
-const CLOSED: u8 = 128 + 13;
-
+// A closed output ends the program without a word.
 fn main(rt: HostRuntime) -> ExitCode {
     match state(&mut rt.stdin(), &mut rt.stdout(), &mut rt.stderr()) {
-        Err(Failure::Output(e)) if e.kind() == ErrorKind::BrokenPipe => ExitCode::from(CLOSED),
+        Err(Failure::Output(e)) => ExitCode::from(status_after(Err(e))),
         _ => ExitCode::SUCCESS,
     }
 }

@@ -3,9 +3,9 @@
 ghost use Rattle.std.specs.Prelude.{◌+◌, ◌<◌, ◌≤◌, length};
 
 use crate::print::{part, print_digest, print_number, print_text};
-use inputs::read_full;
 use std::io;
 use std::io::Read;
+use streams::read_full;
 use wire::{digest_at, id_at, u16_at, u32_at, wide};
 
 // The place of a field's bytes; both 0 where there is no field.

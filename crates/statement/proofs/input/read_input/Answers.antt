@@ -1,7 +1,7 @@
 use Rattle.std.proofs.Common.{rules, sym, arith, subst}
 use Rattle.std.specs.Io.KnownBytes.{Consumes}
 use Rattle.std.proofs.KnownBytes.{Consumes-trans}
-use Rattle.statement.proofs.Taking.{taken_on}
+use Rattle.streams.proofs.Taking.{taken_on}
 use Rattle.statement.proofs.input.read_input.Goals as goal
 
 pub loop-n-preserved : goal.loop-n-preserved

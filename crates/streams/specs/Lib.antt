@@ -1,0 +1,2 @@
+-- What a program ends with.
+pub mod Status
