@@ -338,7 +338,7 @@ FINARUVOM_CALL uint32_t finaruvom_open(struct finaruvom_book *book, const uint8_
 FINARUVOM_CALL uint32_t finaruvom_open_with(struct finaruvom_book *book, const uint8_t *id, size_t id_n, struct finaruvom_settings settings,
                                             const uint32_t *dates, size_t dates_n);
 
-// Carries a command out on the lent book, or refuses it and keeps every value. The book is written also where it is refused, with what stood there.
+// Carries a command out on the lent book, or refuses it and keeps every value. The book may be written also where it is refused, with what stood there.
 // Duties: book not null, aligned, alone; command not null, shared; stack FINARUVOM_STACK_APPLY.
 FINARUVOM_CALL struct finaruvom_answer finaruvom_apply(struct finaruvom_book *book, const uint8_t *command, size_t command_n);
 
@@ -364,8 +364,8 @@ FINARUVOM_CALL struct finaruvom_ran finaruvom_run(struct finaruvom_book *book, c
 FINARUVOM_CALL uint32_t finaruvom_make_key(struct finaruvom_signer *signer, const uint8_t *seed, size_t seed_n, const uint8_t *id, size_t id_n);
 
 // Signs a message with the signer's next leaf and the RFC's C, 32 bytes taken at random for each signature, and moves the signer to the leaf after it. A C of
-// another length or a message of more than FINARUVOM_LONGEST_MESSAGE bytes gives 2, then no leaf left 15, and the signer keeps every value. It is written
-// also where it is refused, with what stood there.
+// another length or a message of more than FINARUVOM_LONGEST_MESSAGE bytes gives 2, then no leaf left 15, and the signer keeps every value. It may be
+// written also where it is refused, with what stood there.
 // Duties: signer not null, aligned, alone; nonce, message not null, shared; stack FINARUVOM_STACK_SIGN.
 FINARUVOM_CALL struct finaruvom_signature finaruvom_sign(struct finaruvom_signer *signer, const uint8_t *nonce, size_t nonce_n, const uint8_t *message,
                                                          size_t message_n);

@@ -1,6 +1,6 @@
-// How often each call copies the book, the signer or the list, and how much stack it takes, held to limits: a command, a key making and a signing change
-// what is lent in place and copy none of it, a reading copies the book twice, an opening copies it in, a list is not copied, and the stack is what the header
-// says. A further copy that the compiler wrote without a call would show on the stack. With --short it makes no key, which takes seconds.
+// How often each call copies the book, the signer or the list, and how much stack it takes, held to limits: a call changes what is lent in place or reads it
+// there and copies none of it, and the stack is what the header says. A further copy that the compiler wrote without a call would show on the stack. With
+// --short it makes no key, which takes seconds.
 #define _XOPEN_SOURCE 700
 #include "../bench/copied.h"
 #include "../bench/dates.h"
@@ -19,9 +19,9 @@ struct lent {
     const char *name;
     size_t copies, bytes;
 };
-static const struct lent lent_book = {"book", 2, 2 * FINARUVOM_BOOK_SIZE + 7168};
+static const struct lent lent_book = {"book", 0, 7168};
 static const struct lent lent_in_place = {"book", 0, 7168};
-static const struct lent lent_to_open = {"book", 1, FINARUVOM_BOOK_SIZE + 4096};
+static const struct lent lent_to_open = {"book", 0, 4096};
 static const struct lent lent_to_make = {"signer", MAKING_COPIES, MAKING_COPIES * FINARUVOM_SIGNER_SIZE + 800 * FINARUVOM_LEAVES};
 static const struct lent lent_to_sign = {"signer", SIGNING_COPIES, SIGNING_COPIES * FINARUVOM_SIGNER_SIZE + 4096};
 static const struct lent lent_list = {"list", 0, 4096};
@@ -346,7 +346,7 @@ static void commands(void) {
     fits = false;
 }
 
-// An opening copies the fresh book in, and one that is refused copies the lent book out and back.
+// An opening makes the book where it is lent, and one that is refused leaves it there.
 static void open_books(void) {
     measure_lent(&lent_to_open, "open", open_book, answered_0, 1, FINARUVOM_STACK_OPEN);
     for (size_t i = 0; i < sizeof openings / sizeof openings[0]; i++) {

@@ -1,2 +1,2 @@
--- What an opening's checks tell.
+-- What an opening takes of its id.
 pub mod Openings

@@ -1,37 +1,32 @@
-// The calls on a lent book: thin entries over what changes it in place or takes it by value.
+// The calls that change a lent book in place.
 ghost use Rattle.std.specs.Prelude.{◌≡◌};
-ghost use Rattle.machine.specs.Book.{reading};
 ghost use Rattle.machine.specs.Opening.{under, plainly, opening};
-ghost use Rattle.machine.specs.Due.{value_of, due};
 ghost use Rattle.machine.specs.Real.{real_step};
+ghost use Rattle.arbiter.specs.Openings.{opened_in};
 
-use crate::next::due_of;
-use crate::opening::{opened, opened_with};
-use crate::readings::read_of;
+use crate::opening::{opened_with, plain_settings};
 use command::carry_out;
-use machine::{Answer, Book, Found, Reading, Settings};
+use machine::{Answer, Book, Refusal, Settings};
 
-// The plain opening: makes any lent book fresh, with the id, and answers 0; an id that is not 16 bytes long gives 2 and keeps every value.
-pub fn open(book: &mut Book, id: &[u8]) -> u32
-    ensures { (result ≡ (opening book.old (plainly id.now)).refusal)
-        × (book.new ≡ (opening book.old (plainly id.now)).book) }
+// The plain opening: makes any lent book fresh, with the id; an id that is not 16 bytes long is refused with 2 and keeps every value.
+pub fn open(book: &mut Book, id: &[u8]) -> Result<(), Refusal>
+    ensures { opened_in book.new result ≡ opening book.old (plainly id.now) }
 {
-    let lent = *book;
-    let done = opened(lent, id);
-    *book = done.book;
-    done.refusal
+    open_with(book, id, plain_settings(), &[])
 }
 
 // The opening with settings and dates: 2 for the id, then 14 where the default delay is out of its range, then 20 for the fee, then 21 where a date does not
 // exist, then 22 where they are more than 64 or do not rise; refused, it keeps every value.
-pub fn open_with(book: &mut Book, id: &[u8], settings: Settings, dates: &[u32]) -> u32
-    ensures { (result ≡ (opening book.old (under settings dates.now id.now)).refusal)
-        × (book.new ≡ (opening book.old (under settings dates.now id.now)).book) }
+pub fn open_with(
+    book: &mut Book,
+    id: &[u8],
+    settings: Settings,
+    dates: &[u32],
+) -> Result<(), Refusal>
+    ensures { opened_in book.new result ≡ opening book.old (under settings dates.now id.now) }
 {
-    let lent = *book;
-    let done = opened_with(lent, id, settings, dates);
-    *book = done.book;
-    done.refusal
+    *book = opened_with(id, settings, dates)?;
+    Ok(())
 }
 
 // Carries a command out on the lent book, or refuses it and keeps every value.
@@ -40,20 +35,4 @@ pub fn apply(book: &mut Book, command: &[u8]) -> Answer
         × (book.new ≡ (real_step book.old command.now).book) }
 {
     carry_out(book, command)
-}
-
-// A reading of channel n.
-pub fn read(book: &Book, n: usize) -> Reading
-    ensures { result ≡ reading book.now n }
-{
-    let lent = *book;
-    read_of(lent, n)
-}
-
-// The channel that is due next.
-pub fn due(book: &Book) -> Found
-    ensures { value_of result ≡ due book.now }
-{
-    let lent = *book;
-    due_of(lent)
 }

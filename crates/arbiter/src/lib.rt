@@ -1,4 +1,4 @@
-// The channel arbiter: a book of 64 payment channels. A book is lent to `open`, `open_with`, `apply`, `read` and `due`, each of which has a form by value beside it.
+// The channel arbiter: a book of 64 payment channels. A book is lent to `open`, `open_with`, `apply`, `read` and `due`; `opened`, `opened_with`, `step`, `read_of` and `due_of` are the same by value.
 #![tactic(auto)]
 
 mod lent;
@@ -7,11 +7,11 @@ mod opening;
 mod readings;
 
 pub use command::{size_of, sound, step};
-pub use lent::{apply, due, open, open_with, read};
+pub use lent::{apply, open, open_with};
 pub use machine::{
-    Answer, Book, Cents, Channel, Found, Leaves, Opened, Party, Reading, Seconds, Settings, Setup,
+    Answer, Book, Cents, Channel, Leaves, Party, Reading, Refusal, Seconds, Settings, Setup,
     Stepped,
 };
-pub use next::due_of;
+pub use next::{due, due_of};
 pub use opening::{blank, desk_settings, opened, opened_with, plain_settings};
-pub use readings::read_of;
+pub use readings::{read, read_of};

@@ -1,64 +1,88 @@
 // The channel that is due next.
-ghost use Rattle.std.specs.Prelude.{◌≡◌, true};
+ghost use Rattle.std.specs.Prelude.{◌≡◌, true, ◌&&◌, ◌||◌, eqb, leb, ltb};
 ghost use Rattle.wire.specs.Parts.{all};
-ghost use Rattle.machine.specs.Book.{sound_channel};
+ghost use Rattle.machine.specs.Book.{sound_channel, closing};
 ghost use Rattle.machine.specs.Due.{sooner, soonest, value_of, due};
+ghost use Rattle.arbiter.specs.Next.{soonest_in};
 
-use command::{sound_channels, sound_header};
-use holdings::held_of;
-use machine::{Book, Cents, Channel, Found, Seconds, Soonest};
+use command::sound;
+use holdings::Sound;
+use machine::{Book, Cents, Channel, Seconds, Status};
 
-// Channel n, or the soonest of those after it.
-fn sooner_of(n: u8, ch: Channel, rest: Soonest) -> Soonest
-    requires { sound_channel ch ≡ true }
-    ensures { result ≡ sooner n ch rest }
-{
-    let deadline = ch.deadline;
-    let closing = (ch.status == 4) | (ch.status == 5);
-    let held = held_of(ch);
-    let more = (deadline.0 == rest.deadline.0) & (rest.held.0 <= held.0);
-    let precedes = (deadline.0 < rest.deadline.0) | more;
-    if closing & (!rest.some | precedes) {
-        return Soonest {
-            some: true,
-            number: n,
-            deadline,
-            held,
-        };
-    }
-    rest
+// A closing channel, its deadline and what it holds.
+#[derive(Clone, Copy)]
+pub struct Closing {
+    pub number: u8,
+    pub deadline: Seconds,
+    pub held: Cents,
 }
 
-fn soonest_of(book: Book) -> Soonest
-    requires { all sound_channel book.channels ≡ true }
-    ensures { result ≡ soonest 0 book.channels }
+impl Closing {
+    // The smaller deadline is first, and of equal ones the larger sum; a channel is before those after it that hold no more.
+    fn precedes(self, rest: Closing) -> bool
+        ensures { result ≡ (ltb self.deadline.0 rest.deadline.0 || (eqb self.deadline.0 rest.deadline.0 && leb rest.held.0 self.held.0)) }
+    {
+        (self.deadline < rest.deadline)
+            | ((self.deadline == rest.deadline) & (rest.held <= self.held))
+    }
+}
+
+fn is_closing(ch: Channel) -> bool
+    ensures { result ≡ closing ch }
 {
-    let mut best = Soonest {
-        some: false,
-        number: 0,
-        deadline: Seconds(0),
-        held: Cents(0),
+    ch.is(Status::MerchantClosing) | ch.is(Status::CustomerClosing)
+}
+
+// Channel n, or the soonest of those after it.
+#[tactic(auto, unfolding(machine::specs::Due::sooner))]
+fn sooner_of(n: u8, sound: Sound, rest: Option<Closing>) -> Option<Closing>
+    ensures { soonest_in result ≡ sooner n sound.channel (soonest_in rest) }
+{
+    let ch = sound.channel;
+    let this = Closing {
+        number: n,
+        deadline: ch.deadline,
+        held: sound.held(),
     };
-    let mut i: usize = 64;
-    while i > 0 {
-        i -= 1;
-        let ch = book.channels[i];
-        best = sooner_of(i as u8, ch, best);
+    match rest {
+        _ if !is_closing(ch) => rest,
+        Some(other) if !this.precedes(other) => rest,
+        _ => Some(this),
+    }
+}
+
+fn soonest_of(channels: &[Channel; 64]) -> Option<Closing>
+    requires { all sound_channel channels.now ≡ true }
+    ensures { soonest_in result ≡ soonest 0 channels.now }
+{
+    let mut best = None;
+    // From the last to the first, as the definition goes; n is also what is answered.
+    for n in (0..64u8).rev() {
+        let sound = Sound {
+            channel: channels[usize::from(n)],
+        };
+        best = sooner_of(n, sound, best);
     }
     best
 }
 
 // None exactly when the book is unsound or no channel is closing.
-pub fn due_of(book: Book) -> Found
+#[tactic(auto, unfolding(machine::specs::Due::due))]
+pub fn due(book: &Book) -> Option<u8>
+    ensures { value_of result ≡ due book.now }
+{
+    if !sound(book) {
+        return None;
+    }
+    match soonest_of(&book.channels) {
+        Some(best) => Some(best.number),
+        None => None,
+    }
+}
+
+// The same of a book by value.
+pub fn due_of(book: Book) -> Option<u8>
     ensures { value_of result ≡ due book }
 {
-    let steady = sound_header(book.mark, book.setup, book.clock) & sound_channels(book);
-    if !steady {
-        return Found::Nothing;
-    }
-    let best = soonest_of(book);
-    if best.some {
-        return Found::At(best.number);
-    }
-    Found::Nothing
+    due(&book)
 }

@@ -1,13 +1,16 @@
 // A book to lend, and the openings that make it fresh: the plain one, and one that is given settings and dates.
 ghost use Rattle.std.specs.Prelude.{◌≡◌};
+ghost use Rattle.machine.specs.declared.state.Book.{Book};
+ghost use Rattle.calendar.specs.Lists.{given};
+ghost use Rattle.arbiter.specs.Openings.{opened_by};
 ghost use Rattle.machine.specs.Opening.{under, plainly, plain_settings, desk_settings, kept_by, unused, fresh_book, opening, blank_book};
 
-use checks::{tested, unjudged};
-use days::{Listed, list_of, unlisted};
+use checks::ensure;
+use days::{ShutDays, all_exist};
 use fees::fee_fits;
 use holdings::delay_fits;
-use machine::{Book, Cents, Channel, Leaves, MARK, Opened, Party, Seconds, Settings, Setup};
-use wire::id_at;
+use machine::{Book, Cents, Channel, Leaves, MARK, Party, Refusal, Seconds, Settings, Setup};
+use wire::array_at;
 
 // Status 0, and zeros.
 fn unused_channel() -> Channel
@@ -79,18 +82,18 @@ pub fn desk_settings() -> Settings
     }
 }
 
-fn fresh_book(id: [u8; 16], settings: Settings, list: Listed) -> Book
-    ensures { result ≡ fresh_book id (kept_by settings list.days list.count) }
+fn fresh_book(id: [u8; 16], settings: Settings, shut: ShutDays) -> Book
+    ensures { result ≡ fresh_book id (kept_by settings shut.days shut.count) }
 {
     let channel = unused_channel();
     let channels = [channel; 64];
-    let days = list.days;
+    let days = shut.days;
     let setup = Setup {
         delay: settings.delay,
         fee: settings.fee,
         days,
-        count: list.count,
-        dated: settings.dated as u32,
+        count: shut.count,
+        dated: u32::from(settings.dated),
     };
     Book {
         mark: MARK,
@@ -101,36 +104,30 @@ fn fresh_book(id: [u8; 16], settings: Settings, list: Listed) -> Book
     }
 }
 
-// A fresh book with the id, the settings and the dates, or the lent one and the number of the first check that says no.
-pub fn opened_with(lent: Book, id: &[u8], settings: Settings, dates: &[u32]) -> Opened
-    ensures { result ≡ opening lent (under settings dates.now id.now) }
+// The dates that an opening is given: none where it is given no list.
+fn given(dated: bool, dates: &[u32]) -> &[u32]
+    ensures { result.now ≡ given dated dates.now }
 {
-    let list = list_of(settings.dated, dates);
-    let j = tested(unjudged(), 2, id.len() == 16);
-    let j = tested(j, 14, delay_fits(settings.delay as u64));
-    let j = tested(j, 20, fee_fits(settings.fee));
-    let j = tested(j, 21, list.exist);
-    let j = tested(j, 22, list.fit);
-    if j.refusal != 0 {
-        return Opened {
-            book: lent,
-            refusal: j.refusal,
-        };
-    }
-    let book = fresh_book(id_at(id, 0), settings, list);
-    Opened { book, refusal: 0 }
+    if dated { dates } else { &[] }
+}
+
+// A fresh book with the id, the settings and the dates, or the first check that says no.
+#[tactic(auto, using(crate::proofs::Openings::part_all), unfolding(machine::specs::Opening::opening, machine::specs::Opening::fresh, machine::specs::Checks::ask))]
+pub fn opened_with(id: &[u8], settings: Settings, dates: &[u32]) -> Result<Book, Refusal>
+    ensures { (lent : Book) → opened_by lent result ≡ opening lent (under settings dates.now id.now) }
+{
+    let dates = given(settings.dated, dates);
+    ensure(id.len() == 16, Refusal::Length)?;
+    ensure(delay_fits(u64::from(settings.delay)), Refusal::DefaultDelay)?;
+    ensure(fee_fits(settings.fee), Refusal::Fee)?;
+    ensure(all_exist(dates), Refusal::Date)?;
+    let shut = ShutDays::of(dates).ok_or(Refusal::Dates)?;
+    Ok(fresh_book(array_at(id, 0), settings, shut))
 }
 
 // The plain opening, which the id alone can fail.
-pub fn opened(lent: Book, id: &[u8]) -> Opened
-    ensures { result ≡ opening lent (plainly id.now) }
+pub fn opened(id: &[u8]) -> Result<Book, Refusal>
+    ensures { (lent : Book) → opened_by lent result ≡ opening lent (plainly id.now) }
 {
-    if id.len() != 16 {
-        return Opened {
-            book: lent,
-            refusal: 2,
-        };
-    }
-    let book = fresh_book(id_at(id, 0), plain_settings(), unlisted());
-    Opened { book, refusal: 0 }
+    opened_with(id, plain_settings(), &[])
 }

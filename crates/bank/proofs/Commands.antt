@@ -1,20 +1,17 @@
 -- Commands and lines side by side: the command that comes next, and what is collected with it.
-use Prim.Native.Nat.{ℕ, zero, suc, ◌-◌, ◌≤◌, ◌<◌}
+use Prim.Native.Nat.{ℕ, zero, suc, ◌≤◌, ◌<◌}
 use native.Mathlib.Omega.{arith}
 use mathlib.Core.Path.{◌≡◌, refl}
 use mathlib.Core.Bool.{Bool, true, false, cond, false≢true}
 use mathlib.Core.List.{List, [], ◌∷◌, ◌++◌}
 use borrow.Author.Tests.{leb-true, leb-false}
 use lib.Dec.{leb, eqb, ltb}
-use lib.ListN.{length, take, drop, get_or, length-drop, get_or-eq_default}
-use lib.Seq.{drop-cons}
+use lib.ListN.{length, take, drop, get_or-eq_default}
 use Rattle.machine.specs.Format.{opcode, size}
-use Rattle.command.proofs.Stepping.{least}
 use Rattle.journal.specs.Runs.{Next, stop, next_by, next_of}
 use Rattle.journal.specs.declared.lines.Line.{Line}
 use Rattle.journal.proofs.Turning.{fits}
 use Rattle.bank.specs.Collected.{paid_in, collected}
-use Rattle.bank.specs.Walks.{no_line}
 
 -- ---- a command that goes
 
@@ -44,6 +41,22 @@ pub record Known (op : ℕ) : Type 0 where
   pub last : op ≤ 10
   pub three : 3 ≤ size op
 
+-- Each command is long enough for one.
+least : (op : ℕ) → 1 ≤ op → op ≤ 10 → 3 ≤ size op
+unfolding size
+least zero l h = absurd (omega arith)
+least (suc zero) l h = omega arith
+least (suc (suc zero)) l h = omega arith
+least (suc (suc (suc zero))) l h = omega arith
+least (suc (suc (suc (suc zero)))) l h = omega arith
+least (suc (suc (suc (suc (suc zero))))) l h = omega arith
+least (suc (suc (suc (suc (suc (suc zero)))))) l h = omega arith
+least (suc (suc (suc (suc (suc (suc (suc zero))))))) l h = omega arith
+least (suc (suc (suc (suc (suc (suc (suc (suc zero)))))))) l h = omega arith
+least (suc (suc (suc (suc (suc (suc (suc (suc (suc zero))))))))) l h = omega arith
+least (suc (suc (suc (suc (suc (suc (suc (suc (suc (suc zero)))))))))) l h = omega arith
+least (suc (suc (suc (suc (suc (suc (suc (suc (suc (suc (suc n))))))))))) l h = absurd (omega arith)
+
 known_size : (op : ℕ) → 0 < size op → Known op
 unfolding size
 known_size zero h = absurd (omega arith)
@@ -70,19 +83,3 @@ pub collected_go : (cs : List ℕ) (l : Line) (ls : List Line) → (next_of cs (
     → collected cs (l ∷ ls) ≡ paid_in (take (next_of cs (suc (length ls))).size cs) l ++ collected (drop (next_of cs (suc (length ls))).size cs) ls
 unfolding collected
 collected_go cs l ls g = rw g
-
--- From some line on.
-module _ (cs : List ℕ) (ls : List Line) (i : ℕ) where
-  pub rest_stop : (next_of cs (length ls - i)).goes ≡ false → collected cs (drop i ls) ≡ []
-  rest_stop g = collected_stop cs (drop i ls) (rw (length-drop i ls) g)
-
-  module _ (g : (next_of cs (length ls - i)).goes ≡ true) where
-    pub line_left : i < length ls
-    line_left = omega (arith, (fits cs (length ls - i)).line g)
-
-    pub rest_go : collected cs (drop i ls)
-        ≡ paid_in (take (next_of cs (length ls - i)).size cs) (get_or ls i no_line) ++ collected (drop (next_of cs (length ls - i)).size cs) (drop (suc i) ls)
-    rest_go =
-        let e = drop-cons ls i no_line line_left in
-        let n : suc (length (drop (suc i) ls)) ≡ length ls - i = omega (arith, length-drop (suc i) ls, line_left) in
-        rw e (rw n at (collected_go cs (get_or ls i no_line) (drop (suc i) ls) (rw n g)))

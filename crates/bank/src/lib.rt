@@ -2,8 +2,7 @@
 #![tactic(auto)]
 
 mod collecting;
-mod lines;
-mod walking;
+mod paid;
 
 pub use collecting::collect;
-pub use payments::{Counted, Payment, read, write};
+pub use payments::{Counted, Payment, Refusal, read, write};

@@ -1,12 +1,12 @@
 -- The count of days: tables of months and a formula of years, each tested by computing, and the claim of the calendar.
-use mathlib.Core.Path.{◌≡◌, refl}
+use mathlib.Core.Path.{◌≡◌, refl, sym, ap, ◌∙◌}
 use mathlib.Core.Bool.{Bool, true, false, cond, ◌&&◌}
 use mathlib.Core.List.{List, [], ◌∷◌}
 use Prim.Native.Nat.{ℕ, zero, suc, ◌+◌, ◌*◌, ◌-◌, ◌/◌, ◌%◌, ◌≤◌, ◌<◌}
 use native.Mathlib.Decide.{le_ind}
 use native.Mathlib.Omega.{arith}
 use lib.Dec.{eqb, leb, ltb}
-use lib.ListN.{get_or, get_or-eq_default}
+use lib.ListN.{get_or}
 use borrow.Author.Tests.{eqb-true, eqb-false, leb-true, ltb-true, ltb-false}
 use Rattle.wire.proofs.Laws.{and_both}
 use Rattle.calendar.specs.Calendar.{Date, date, leap, month_days, before, year_days, since, exists, day_of, numbered, day_number, is_date, date_of, weekday, CalendarMeans}
@@ -45,17 +45,13 @@ years k h =
 
 -- ---- months
 
--- As the code has them: those of a year that is no leap year.
-abbrev pub lengths : List ℕ
-lengths = 0 ∷ 31 ∷ 28 ∷ 31 ∷ 30 ∷ 31 ∷ 30 ∷ 31 ∷ 31 ∷ 30 ∷ 31 ∷ 30 ∷ 31 ∷ []
-
+-- As the code has them: those before each, in a year that is no leap year.
 abbrev pub befores : List ℕ
 befores = 0 ∷ 0 ∷ 31 ∷ 59 ∷ 90 ∷ 120 ∷ 151 ∷ 181 ∷ 212 ∷ 243 ∷ 273 ∷ 304 ∷ 334 ∷ []
 
 abbrev good_month : Bool → ℕ → Bool
 good_month long m =
-    eqb (month_days long m) (cond (eqb m 2 && long) 29 (get_or lengths m 0))
-    && eqb (before long m) (cond (ltb 2 m && long) (get_or befores m 0 + 1) (get_or befores m 0))
+    eqb (before long m) (cond (ltb 2 m && long) (get_or befores m 0 + 1) (get_or befores m 0))
     && leb (before long (suc m)) (year_days long) && leb (get_or befores m 0) 334
 
 all_months : (long : Bool) → below (good_month long) 13 ≡ true
@@ -64,7 +60,6 @@ all_months true = refl
 all_months false = refl
 
 pub record Months (long : Bool) (m : ℕ) : Type 0 where
-  pub days : month_days long m ≡ cond (eqb m 2 && long) 29 (get_or lengths m 0)
   pub earlier : before long m ≡ cond (ltb 2 m && long) (get_or befores m 0 + 1) (get_or befores m 0)
   pub within : before long m + month_days long m ≤ year_days long
   pub few : get_or befores m 0 ≤ 334
@@ -74,26 +69,15 @@ unfolding before
 months long m h =
     let f = and_both _ _ (below_at (good_month long) 13 m (all_months long) (omega arith)) in
     let t = and_both _ _ f.0 in
-    let u = and_both _ _ t.0 in
-    record { days = eqb-true _ _ u.0; earlier = eqb-true _ _ u.1; within = leb-true _ _ t.1; few = leb-true _ _ f.1 }
+    record { earlier = eqb-true _ _ t.0; within = leb-true _ _ t.1; few = leb-true _ _ f.1 }
 
 -- As the code takes them: l is its answer of a leap year.
 module _ (long l : Bool) (e : l ≡ long) (m : ℕ) (h : m ≤ 12) where
-  pub february : (eqb m 2 && l) ≡ true → 29 ≡ month_days long m
-  february t = rw ((months long m h).days, ← e, t)
-
-  pub other_month : (eqb m 2 && l) ≡ false → get_or lengths m 0 ≡ month_days long m
-  other_month t = rw ((months long m h).days, ← e, t)
-
   pub after_leap_day : (ltb 2 m && l) ≡ true → get_or befores m 0 + 1 ≡ before long m
   after_leap_day t = rw ((months long m h).earlier, ← e, t)
 
   pub no_leap_day : (ltb 2 m && l) ≡ false → get_or befores m 0 ≡ before long m
   no_leap_day t = rw ((months long m h).earlier, ← e, t)
-
-pub no_month : (long : Bool) (m : ℕ) → 12 < m → month_days long m ≡ 0
-unfolding month_days
-no_month long m h = get_or-eq_default (0 ∷ 31 ∷ cond long 29 28 ∷ 31 ∷ 30 ∷ 31 ∷ 30 ∷ 31 ∷ 31 ∷ 30 ∷ 31 ∷ 30 ∷ 31 ∷ []) 0 h
 
 whole_year : (long : Bool) → before long 12 + month_days long 12 ≡ year_days long
 unfolding before month_days
@@ -127,9 +111,9 @@ exists_parts t e =
     }
 
 -- Every date that exists has a number below those of 2400.
-in_time_lem : (t : Date) → Exists t → day_of t < numbered
+pub date_fits : (t : Date) → Exists t → day_of t < numbered
 unfolding since
-in_time_lem t e =
+date_fits t e =
     let k = t.year - 1970 in
     let y : 1970 + k ≡ t.year = omega (arith, e.year_low) in
     let m = (months (leap t.year) t.month e.month_high).within in
@@ -141,12 +125,16 @@ unfolding day_number
 number_fits x = go (is_date x) refl
   where
     go : (y : Bool) → is_date x ≡ y → cond y (day_of (date_of x)) 0 < numbered
-    go true e = in_time_lem (date_of x) (exists_parts (date_of x) e)
+    go true e = date_fits (date_of x) (exists_parts (date_of x) e)
     go false e = omega arith
 
 pub number_yes : (x : ℕ) → is_date x ≡ true → day_of (date_of x) ≡ day_number x
 unfolding day_number
 number_yes x h = rw h
+
+-- The number of a date's parts.
+pub number_of : (d : Date) (x : ℕ) → d ≡ date_of x → exists d ≡ true → day_of d ≡ day_number x
+number_of d x e h = ap day_of e ∙ number_yes x (sym (ap exists e) ∙ h)
 
 pub number_no : (x : ℕ) → is_date x ≡ false → 0 ≡ day_number x
 unfolding day_number

@@ -6,8 +6,8 @@ use Prim.Native.Nat.{ℕ, suc, ◌+◌, ◌*◌, ◌/◌, ◌≤◌, ◌<◌}
 use native.Mathlib.Numerals.{add-one}
 use native.Mathlib.Omega.{arith}
 use lib.Dec.{eqb, ltb}
-use lib.ListN.{length, take, drop, get_or, length-take, drop_of_length-le}
-use lib.Seq.{drop-cons, get_or-take}
+use lib.ListN.{length, drop, get_or, drop_of_length-le}
+use lib.Seq.{drop-cons}
 use borrow.Author.Tests.{eqb-true, eqb-false, eq-eqb, ne_eqb, ltb-true, ltb-false}
 use Rattle.wire.proofs.Laws.{and_both, clash, or_neither, or_right}
 use Rattle.calendar.specs.Calendar.{weekday}
@@ -217,34 +217,18 @@ module _ (x d o : ℕ) (e : o ≡ skip d) where
   past_off h = rw (← e, ne_eqb x o (λ q. h (sym q)))
 
 -- After i turns the listed days from i on are still to be passed.
-abbrev pub Passed : List ℕ → ℕ → ℕ → ℕ → ℕ → Type 0
-Passed days count day o i =
-    (length days ≡ 64) × (i ≤ 64) × (o ≤ day + 3 * i) × (next_open (drop i (take count days)) o ≡ next_open (take count days) day)
+abbrev pub Passed : List ℕ → ℕ → ℕ → ℕ → Type 0
+Passed l day o i = (o ≤ day + 3 * i) × (next_open (drop i l) o ≡ next_open l day)
 
-pub passed_none : (days : List ℕ) (count day : ℕ) → length days ≡ 64 → Passed days count day day 0
-passed_none days count day n = (n, omega arith, omega arith, refl)
+pub passed_more : (l : List ℕ) (day o i : ℕ) → Passed l day o i → i < length l → (n : ℕ) → n ≡ past (get_or l i 0) o → Passed l day n (i + 1)
+unfolding next_open
+passed_more l day o i v h n e =
+    let d : drop i l ≡ get_or l i 0 ∷ drop (i + 1) l = rw add-one (drop-cons l i 0 h) in
+    (omega (arith, e, (past_near (get_or l i 0) o).1, v.0), rw e (rw d at v.1))
 
-module _ (days : List ℕ) (count day o i : ℕ) (v : Passed days count day o i) where
-  pub passed_more : i < 64 → i < count → (n : ℕ) → n ≡ past (get_or days i 0) o → Passed days count day n (i + 1)
-  unfolding next_open
-  passed_more h k n e =
-      let l = take count days in
-      let m : i < length l = rw (length-take count days) (omega (arith, v.0)) in
-      let d : drop i l ≡ get_or days i 0 ∷ drop (i + 1) l = rw add-one (drop-cons l i 0 m ∙ rw (get_or-take count days i 0 k)) in
-      (v.0, omega arith, omega (arith, e, (past_near (get_or days i 0) o).1, v.2), rw e (rw d at v.3))
-
-  pub passed_out : i < 64 → count ≤ i → (n : ℕ) → n ≡ o → Passed days count day n (i + 1)
-  passed_out h k n e =
-      let l = take count days in
-      let m : length l ≤ i = rw (length-take count days) (omega arith) in
-      (v.0, omega arith, omega (arith, e, v.2), rw (e, drop_of_length-le l {i = i + 1} (omega (arith, m)), ← drop_of_length-le l {i = i} m) v.3)
-
-  pub passed_all : 64 ≤ i → (r : ℕ) → r ≡ skip o → (r ≡ next_open (take count days) day) × (r ≤ day + 194)
-  unfolding next_open
-  passed_all h r e =
-      let l = take count days in
-      let m : length l ≤ i = rw (length-take count days) (omega (arith, v.0)) in
-      (e ∙ rw (drop_of_length-le l {i = i} m) at v.3, omega (arith, e, (skip_near o).1, v.1, v.2))
+pub passed_all : (l : List ℕ) (day o i : ℕ) → Passed l day o i → length l ≤ i → i ≤ 64 → (r : ℕ) → r ≡ skip o → (r ≡ next_open l day) × (r ≤ day + 194)
+unfolding next_open
+passed_all l day o i v h m r e = (e ∙ rw (drop_of_length-le l {i = i} h) at v.1, omega (arith, e, (skip_near o).1, v.0))
 
 -- ---- a moved deadline
 

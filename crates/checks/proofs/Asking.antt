@@ -1,23 +1,16 @@
--- One check, as the code makes it.
-use mathlib.Core.Path.{◌≡◌, refl, ap, ◌∙◌}
+-- One check: what comes after a no does not matter; and the steps of a signature check.
+use mathlib.Core.Path.{◌≡◌, refl, ap}
 use mathlib.Core.Bool.{Bool, true, false, cond}
 use mathlib.Core.List.{List}
-use Prim.Native.Nat.{ℕ, ◌+◌, ◌≤◌}
+use Prim.Native.Nat.{ℕ, ◌≤◌}
 use native.Mathlib.Omega.{arith}
-use borrow.Author.Tests.{eq-eqb}
-use Rattle.lms.specs.declared.Checked.{Checked}
-use Rattle.lms.specs.Check.{check_of}
+use Rattle.lms.specs.Check.{Checked, check_of}
 use Rattle.lms.proofs.StepLaw.{step_law}
-use Rattle.machine.specs.Checks.{Check, test, signed, passed, made, ask}
+use Rattle.machine.specs.Answered.{Judged}
+use Rattle.machine.specs.Checks.{Check, passed, made, ask}
 use Rattle.machine.specs.Machine.{concluded}
-use Rattle.machine.specs.Real.{lms_verdict}
 use Rattle.machine.specs.declared.units.Cents.{Cents}
 use Rattle.machine.specs.declared.state.Channel.{Channel}
-use Rattle.machine.specs.declared.answers.Judged.{Judged}
-
-pub ask_made : (j : Judged) (k : Check) (r : Judged) → j.refusal ≡ 0 → r ≡ made j k → r ≡ ask j k
-unfolding ask
-ask_made j k r h e = e ∙ rw (eq-eqb _ _ h)
 
 -- Where a check said no it does not matter which one comes next, nor what would become of the channel.
 pub unasked : (j : Judged) → passed j ≡ false → (k l : Check) → ask j k ≡ ask j l
@@ -37,12 +30,5 @@ leaf_known f j k q h = go (passed j) refl
     go true z = refl
     go false z = h j z 0 q
 
--- A signature check that was made.
-module _ (v : Checked) (key message signature : List ℕ) (e : v ≡ check_of key message signature) where
-  pub steps_most : v.steps ≤ 8415
-  steps_most = omega (arith, ap (λ (x : Checked). x.steps) e, step_law.check key message signature)
-
-  -- Its steps are counted, and then its verdict is a test.
-  pub ask_signed : (j : Judged) (r : ℕ) → j.refusal ≡ 0 → ask (record { refusal = j.refusal; steps = j.steps + v.steps }) (test r v.verdict) ≡ ask j (signed r (lms_verdict key message signature))
-  unfolding ask
-  ask_signed j r h = rw (eq-eqb _ _ h, ← e)
+pub steps_most : (v : Checked) (key message signature : List ℕ) → v ≡ check_of key message signature → v.steps ≤ 8415
+steps_most v key message signature e = omega (arith, ap (λ (x : Checked). x.steps) e, step_law.check key message signature)

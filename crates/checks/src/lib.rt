@@ -1,10 +1,10 @@
-// A command's checks, one after the other: the first no decides, and what comes of it. Only the product's own parts call it.
+// A command's checks, one after the other: the first no decides. Only the product's own parts call it.
 #![tactic(auto)]
 
 mod judging;
 mod secrets;
 mod signatures;
 
-pub use judging::{answered, ruled, tested, unjudged};
-pub use secrets::secret_tested;
-pub use signatures::signature_tested;
+pub use judging::ensure;
+pub use secrets::secret_checked;
+pub use signatures::Signed;

@@ -1,24 +1,19 @@
-// Check 10: does the secret of a dispute hash to the kept lock? It is hashed only where all checks before said yes.
-ghost use Rattle.std.specs.Prelude.{◌≡◌, ◌≤◌, length};
+// Check 10: does the secret of a dispute hash to the kept lock?
+ghost use Rattle.std.specs.Prelude.{◌≡◌, true, false, ◌≤◌, length, MatchResult};
 ghost use Rattle.wire.specs.Parts.{same};
 ghost use Rattle.sha256.specs.Digest.{sha256};
 ghost use Rattle.machine.specs.Format.{secret};
-ghost use Rattle.machine.specs.Checks.{test, ask};
+ghost use Rattle.machine.specs.declared.numbers.Refusal.{Refusal};
 
-use crate::judging::tested;
-use machine::Judged;
-use sha256::hash;
-use wire::same_digest;
+use crate::judging::ensure;
+use machine::Refusal;
+use sha256::Sha256;
+use wire::same;
 
-pub fn secret_tested(j: Judged, lock: [u8; 32], command: &[u8]) -> Judged
+pub fn secret_checked(lock: [u8; 32], command: &[u8]) -> Result<(), Refusal>
     requires { 35 ≤ length command.now }
-    ensures value { result ≡ ask j (test 10 (same (sha256 (secret command.now)) lock)) }
-    ensures steps_value { result.steps ≡ j.steps }
+    ensures { MatchResult result (λ _. same (sha256 (secret command.now)) lock ≡ true) (λ e. (same (sha256 (secret command.now)) lock ≡ false) × (e ≡ Refusal.Secret)) }
 {
-    if j.refusal != 0 {
-        return j;
-    }
-    let hashed = hash(&command[3..35]);
-    let digest = hashed.digest;
-    tested(j, 10, same_digest(digest, lock))
+    let hashed = Sha256::new().feed(&command[3..35]).finish();
+    ensure(same(&hashed, &lock), Refusal::Secret)
 }

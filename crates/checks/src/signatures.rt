@@ -1,54 +1,60 @@
-// Checks 11 and 12: is a signature good? It is checked only where all checks before said yes.
-ghost use Rattle.std.specs.Prelude.{◌≡◌, cond, ◌+◌, ◌≤◌, length, take};
+// Checks 11 and 12: is a signature good?
+ghost use Rattle.std.specs.Prelude.{◌≡◌, true, false, ◌+◌, ◌≤◌, length, take, MatchResult};
 ghost use Rattle.machine.specs.Format.{message};
-ghost use Rattle.machine.specs.Checks.{signed, passed, ask};
 ghost use Rattle.machine.specs.Machine.{verdict};
 ghost use Rattle.machine.specs.Real.{lms_verdict};
+ghost use Rattle.checks.specs.Verdicts.{verdict_of, Says};
 
-use crate::judging::tested;
-use lms::check;
-use machine::{Judged, Sealed};
+use lms::{Outcome, check};
+use machine::Refusal;
 use wire::copy_into;
 
-// A buffer that begins with the signed message, whose operands end at `end`.
-fn signed_message(id: [u8; 16], command: &[u8], end: usize) -> [u8; 67]
-    requires { (3 ≤ end) × (end ≤ 51) × (end ≤ length command.now) }
-    ensures { take (end + 16) result ≡ message end id command.now }
-{
-    let mut buffer = [0u8; 67];
-    copy_into(&command[0..1], &mut buffer, 0);
-    copy_into(&id, &mut buffer, 1);
-    copy_into(&command[1..end], &mut buffer, 17);
-    buffer
+// What a command's sides sign: its opcode, the book's id, and its operands, which end at `end`.
+#[derive(Clone, Copy)]
+pub struct Signed<'a> {
+    pub id: [u8; 16],
+    pub command: &'a [u8],
+    pub end: usize,
+    ghost within: { (3 ≤ end) × (end ≤ 51) × (end ≤ length command.now) },
 }
 
-// Is the signature at `at` good for the key and the signed message, whose operands end at `end`, and what is its leaf?
-pub fn signature_tested(
-    j: Judged,
-    refusal: u32,
-    key: [u8; 56],
-    id: [u8; 16],
-    command: &[u8],
-    end: usize,
-    at: usize,
-) -> Sealed
-    requires { (j.steps ≤ 8415) × (3 ≤ end) × (end ≤ 51) × (end ≤ at) × (at + 1452 ≤ length command.now) }
-    ensures judged_value { result.judged ≡ ask j (signed refusal (verdict lms_verdict key id command.now end at)) }
-    ensures steps_bound { result.judged.steps ≤ j.steps + 8415 }
-    ensures leaf_value { result.leaf ≡ cond (passed j) (verdict lms_verdict key id command.now end at).leaf 0 }
-{
-    if j.refusal != 0 {
-        return Sealed { judged: j, leaf: 0 };
+impl<'a> Signed<'a> {
+    // A buffer that begins with the signed message.
+    fn message(self) -> [u8; 67]
+        ensures { take (self.entry.end + 16) result ≡ message self.entry.end self.entry.id self.entry.command.now }
+    {
+        let mut buffer = [0u8; 67];
+        copy_into(&self.command[0..1], &mut buffer, 0);
+        copy_into(&self.id, &mut buffer, 1);
+        copy_into(&self.command[1..self.end], &mut buffer, 17);
+        buffer
     }
-    let buffer = signed_message(id, command, end);
-    let checked = check(&key, &buffer[..end + 16], &command[at..at + 1452]);
-    let counted = Judged {
-        refusal: j.refusal,
-        steps: j.steps + checked.steps,
-    };
-    let judged = tested(counted, refusal, checked.verdict);
-    Sealed {
-        judged,
-        leaf: checked.leaf,
+
+    // What the check of the signature that stands at `at` in the command comes to: a message of at most 67 bytes is never too long.
+    fn outcome(self, key: [u8; 56], at: usize) -> Outcome
+        requires { at + 1452 ≤ length self.command.now }
+        ensures verdict { verdict_of result ≡ verdict lms_verdict key self.entry.id self.entry.command.now self.entry.end at }
+        ensures bound { result.steps ≤ 8415 }
+    {
+        let buffer = self.message();
+        check(&key, &buffer[..self.end + 16], &self.command[at..at + 1452]).unwrap()
+    }
+
+    // The leaf of that signature, where it is good. Its chain steps count, good or not.
+    pub fn checked(
+        self,
+        key: [u8; 56],
+        at: usize,
+        refusal: Refusal,
+        steps: &mut u32,
+    ) -> Result<u32, Refusal>
+        requires { (steps.old ≤ 8415) × (at + 1452 ≤ length self.command.now) }
+        ensures good { Says (verdict lms_verdict key self.entry.id self.entry.command.now self.entry.end at) refusal result }
+        ensures counted { steps.new ≡ steps.old + (verdict lms_verdict key self.entry.id self.entry.command.now self.entry.end at).steps }
+        ensures steps_bound { steps.new ≤ steps.old + 8415 }
+    {
+        let outcome = self.outcome(key, at);
+        *steps += outcome.steps;
+        outcome.leaf.ok_or(refusal)
     }
 }

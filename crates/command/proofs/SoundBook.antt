@@ -1,10 +1,7 @@
 -- What a sound book tells of each channel, and the test of a book in parts.
-use mathlib.Core.Path.{◌≡◌, refl, ◌∙◌}
+use mathlib.Core.Path.{◌≡◌, refl}
 use mathlib.Core.Bool.{Bool, true, ◌&&◌}
-use Prim.Native.Nat.{ℕ, ◌≤◌}
-use native.Mathlib.Omega.{arith}
-use lib.ListN.{length, take}
-use lib.Seq.{take_all}
+use Prim.Native.Nat.{ℕ}
 use Rattle.wire.specs.Parts.{all}
 use Rattle.machine.specs.Book.{sound_channel, sound, channel, no_channel}
 use Rattle.machine.specs.declared.state.Book.{Book}
@@ -19,14 +16,3 @@ sound_at b n e = all_at sound_channel b.channels n no_channel refl (sound_parts 
 pub in_parts : (b : Book) {x y : Bool} → x ≡ header b → y ≡ all sound_channel b.channels → (x && y) ≡ sound b
 unfolding sound
 in_parts b p q = rw (p, q)
-
--- ---- the test of the channels one by one
-
--- After i turns the flag says whether the header and the first i channels are sound.
-abbrev pub Tested : Book → Bool → ℕ → Type 0
-Tested b ok i = (i ≤ 64) × (ok ≡ (header b && all sound_channel (take i b.channels)))
-
-module _ (b : Book) (h : length b.channels ≡ 64) (ok : Bool) (i : ℕ) (t : Tested b ok i) where
-  pub tested_all : 64 ≤ i → ok ≡ sound b
-  unfolding sound
-  tested_all l = t.1 ∙ rw (take_all i b.channels (omega arith))

@@ -4,5 +4,5 @@
 mod soundness;
 mod steps;
 
-pub use soundness::{sound, sound_channels, sound_header};
+pub use soundness::sound;
 pub use steps::{carry_out, size_of, step};

@@ -1,119 +1,113 @@
 // One command on one book.
-ghost use Rattle.std.specs.Prelude.{◌≡◌, [], ◌∷◌, length};
-ghost use Rattle.machine.specs.Format.{opcode, size};
-ghost use Rattle.machine.specs.Checks.{test, clean, judge};
-ghost use Rattle.machine.specs.Machine.{formed};
+ghost use Rattle.std.specs.Prelude.{◌≡◌, true, length};
+ghost use Rattle.machine.specs.Format.{opcode, size, place};
+ghost use Rattle.machine.specs.Book.{sound};
+ghost use Rattle.machine.specs.Outcomes.{opcode_number};
 ghost use Rattle.machine.specs.Real.{real_step};
-ghost use Rattle.command.specs.Parts.{clocked};
+ghost use Rattle.command.specs.Parts.{clocked, clocked_of, stepped_of};
+ghost use Rattle.command.specs.Parts.{OnChannel};
 
-use crate::soundness::sound_header;
+use crate::soundness::sound;
 use channel::rule;
-use checks::{answered, tested, unjudged};
+use checks::ensure;
 use fees::charged;
-use holdings::sound_channel;
-use machine::{Answer, Book, Cents, Channel, Context, Judged, LIMIT, Seconds, Stepped};
+use holdings::Sound;
+use machine::{Answer, Book, Cents, Context, LIMIT, Opcode, Refusal, Seconds, Stepped};
 use wire::{u16_at, u64_at};
 
-const SIZES: [usize; 11] = [0, 9, 135, 11, 11, 1455, 2923, 2955, 1455, 1487, 3];
+// The whole length of a command.
+#[tactic(auto, unfolding(machine::specs::Format::size))]
+fn length_of(op: Opcode) -> usize
+    ensures { result ≡ size (opcode_number op) }
+{
+    match op {
+        Opcode::Clock => 9,
+        Opcode::Establish => 135,
+        Opcode::FundCustomer | Opcode::FundMerchant => 11,
+        Opcode::Reclaim | Opcode::MerchantClose => 1455,
+        Opcode::MutualClose => 2923,
+        Opcode::CustomerClose => 2955,
+        Opcode::Dispute => 1487,
+        Opcode::Settle => 3,
+    }
+}
 
-// The whole length of a command; 0 for a byte that is no opcode.
+// The same of its first byte; 0 for a byte that is no opcode.
+#[tactic(auto, using(crate::proofs::Stepping::no_size))]
 pub fn size_of(op: u8) -> usize
     ensures { result ≡ size op }
 {
-    if op > 10 {
-        return 0;
+    match Opcode::try_from(op) {
+        Ok(op) => length_of(op),
+        Err(_) => 0,
     }
-    SIZES[op as usize]
-}
-
-// The first byte; 0 where there is none.
-fn opcode_of(command: &[u8]) -> u8
-    ensures { result ≡ opcode command.now }
-{
-    if command.len() == 0 {
-        return 0;
-    }
-    command[0]
-}
-
-// The checks that all commands share: 99, 1 and 2.
-fn shared_checks(steady: bool, command: &[u8], op: u8) -> Judged
-    requires { op ≡ opcode command.now }
-    ensures value { result ≡ judge clean (test 99 steady ∷ formed command.now []) }
-    ensures steps_value { result.steps ≡ 0 }
-{
-    let j = tested(unjudged(), 99, steady);
-    let j = tested(j, 1, (1 <= op) & (op <= 10));
-    tested(j, 2, command.len() == size_of(op))
-}
-
-// What 01 makes of the clock, and its answer.
-#[derive(Drop)]
-pub struct Clocked {
-    pub clock: Seconds,
-    pub answer: Answer,
 }
 
 // 01
-fn set_clock(clock: Seconds, time: u64) -> Clocked
-    ensures { result ≡ clocked clock time }
+#[tactic(auto, unfolding(machine::specs::Checks::ask, machine::specs::Machine::answer))]
+fn set_clock(clock: &mut Seconds, time: Seconds) -> Result<(), Refusal>
+    ensures { clocked_of clock.new result ≡ clocked clock.old time.0 }
 {
-    let j = tested(unjudged(), 3, (clock.0 <= time) & (time <= LIMIT));
-    let answer = answered(j, Cents(0), Cents(0));
-    if j.refusal != 0 {
-        return Clocked { clock, answer };
-    }
-    Clocked {
-        clock: Seconds(time),
-        answer,
+    ensure((*clock <= time) & (time.0 <= LIMIT), Refusal::Clock)?;
+    *clock = time;
+    Ok(())
+}
+
+// 02 to 0A on a sound book, where the length is right.
+fn on_channel(
+    book: &mut Book,
+    op: Opcode,
+    command: &[u8],
+    steps: &mut u32,
+) -> Result<Answer, Refusal>
+    requires { OnChannel book.old (opcode_number op) command.now }
+    ensures { stepped_of book.new steps.new result ≡ real_step book.old command.now }
+{
+    *steps = 0;
+    let n = u16_at(command, 1) as usize;
+    ensure(n < 64, Refusal::Channel)?;
+    let id = book.id;
+    let at = Context {
+        id,
+        clock: book.clock,
+        setup: book.setup,
+    };
+    let sound = Sound {
+        channel: book.channels[n],
+    };
+    let accepted = rule(op, sound, at, command, steps)?;
+    book.channels[n] = accepted.channel;
+    let paid = Answer::paid(accepted.customer, accepted.merchant, *steps);
+    Ok(charged(paid, book.setup.fee))
+}
+
+// A command on a lent book, checked and carried out, and the chain steps that it made.
+fn carried(book: &mut Book, command: &[u8], steps: &mut u32) -> Result<Answer, Refusal>
+    ensures { stepped_of book.new steps.new result ≡ real_step book.old command.now }
+{
+    *steps = 0;
+    ensure(sound(book), Refusal::Book)?;
+    let op = Opcode::try_from(command.first().copied().unwrap_or(0))?;
+    ensure(command.len() == length_of(op), Refusal::Length)?;
+    match op {
+        Opcode::Clock => {
+            set_clock(&mut book.clock, Seconds(u64_at(command, 1)))?;
+            Ok(Answer::paid(Cents(0), Cents(0), 0))
+        }
+        _ => on_channel(book, op, command, steps),
     }
 }
 
-// How many channels a book has: known of an array that is lent by itself, and not of one inside a lent struct.
-fn has_64(channels: &[Channel; 64])
-    ensures { length channels.now ≡ 64 }
-{}
-
-// A command on a lent book: it is changed in place, and the answer given. A refused rule leaves the channel that stood there.
+// A command on a lent book: it is changed in place, and the answer given.
 pub fn carry_out(book: &mut Book, command: &[u8]) -> Answer
     ensures answer { result ≡ (real_step book.old command.now).answer }
     ensures book { book.new ≡ (real_step book.old command.now).book }
 {
-    has_64(&book.channels);
-    let mut steady = sound_header(book.mark, book.setup, book.clock);
-    for i in 0..64 {
-        let ch = book.channels[i];
-        steady = steady & sound_channel(ch);
+    let mut steps = 0;
+    match carried(book, command, &mut steps) {
+        Ok(answer) => answer,
+        Err(refusal) => Answer::refused(refusal, steps),
     }
-    let op = opcode_of(command);
-    let j = shared_checks(steady, command, op);
-    let mut answer = answered(j, Cents(0), Cents(0));
-    if j.refusal == 0 {
-        if op == 1 {
-            let done = set_clock(book.clock, u64_at(command, 1));
-            let clock = done.clock;
-            book.clock = clock;
-            answer = done.answer;
-        } else {
-            let n = u16_at(command, 1) as usize;
-            if n < 64 {
-                let ch = book.channels[n];
-                let id = book.id;
-                let at = Context {
-                    id,
-                    clock: book.clock,
-                    setup: book.setup,
-                };
-                let done = rule(op, ch, at, command);
-                answer = charged(done.answer, book.setup.fee);
-                let channel = done.channel;
-                book.channels[n] = channel;
-            } else {
-                answer = answered(tested(j, 4, false), Cents(0), Cents(0));
-            }
-        }
-    }
-    answer
 }
 
 // A command on a book: the book that it leaves, and its answer.

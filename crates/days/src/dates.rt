@@ -1,43 +1,74 @@
 // Dates as numbers, year × 10,000 + month × 100 + day, and the numbers of their days.
-ghost use Rattle.std.specs.Prelude.{◌≡◌, ◌-◌, ◌+◌, ◌≤◌};
-ghost use Rattle.calendar.specs.Calendar.{leap, month_days, before, since, numbered, is_date, day_number};
+ghost use Rattle.std.specs.Prelude.{◌≡◌, ◌-◌, ◌+◌, ◌≤◌, true, false, MatchResult};
+ghost use Rattle.calendar.specs.Calendar.{leap, month_days, before, since, numbered, date, date_of, exists, day_of, is_date, day_number};
 
-const LENGTHS: [u32; 13] = [0, 31, 28, 31, 30, 31, 30, 31, 31, 30, 31, 30, 31];
+// The days from 1970-01-01 to 2399-12-31.
+pub const NUMBERED: u32 = 157054;
 
+// The days of the months before each, in a year that is no leap year: as a sum over the months the bound of `days_before` would stay to be proved.
 const BEFORE: [u32; 13] = [0, 0, 31, 59, 90, 120, 151, 181, 212, 243, 273, 304, 334];
 
+// A date that exists, with a year from 1970 to 2399.
+#[derive(Clone, Copy)]
+struct Date {
+    year: u32,
+    month: u32,
+    day: u32,
+    ghost there: { exists (date year month day) ≡ true },
+}
+
+// A number that is no date's.
+#[derive(Clone, Copy)]
+struct NoDate;
+
+#[tactic(auto, unfolding(calendar::specs::Calendar::leap))]
 fn is_leap(year: u32) -> bool
     ensures { result ≡ leap year }
 {
-    (year % 4 == 0) & ((year % 100 != 0) | (year % 400 == 0))
+    year % 4 == 0 && (year % 100 != 0 || year % 400 == 0)
 }
 
 // The days of a month; 0 for a number that is none.
+#[tactic(auto, unfolding(calendar::specs::Calendar::month_days))]
 fn month_days(year: u32, month: u32) -> u32
     ensures { result ≡ month_days (leap year) month }
 {
-    if month > 12 {
-        return 0;
+    match month {
+        2 if is_leap(year) => 29,
+        2 => 28,
+        4 | 6 | 9 | 11 => 30,
+        1..=12 => 31,
+        _ => 0,
     }
-    if (month == 2) & is_leap(year) {
-        return 29;
-    }
-    LENGTHS[month as usize]
 }
 
-// Whether a number is a date that exists, with a year from 1970 to 2399.
-pub fn is_date(date: u32) -> bool
-    ensures { result ≡ is_date date }
-{
-    let year = date / 10000;
-    let month = date / 100 % 100;
-    let day = date % 100;
-    (1970 <= year)
-        & (year <= 2399)
-        & (1 <= month)
-        & (month <= 12)
-        & (1 <= day)
-        & (day <= month_days(year, month))
+impl TryFrom<u32> for Date {
+    type Error = NoDate;
+
+    ghost try_from_gives = { λ x r. MatchResult r (λ d. date d.year d.month d.day ≡ date_of x) (λ _. is_date x ≡ false) };
+
+    fn try_from(x: u32) -> Result<Self, NoDate> {
+        let year = x / 10000;
+        let month = x / 100 % 100;
+        let day = x % 100;
+        let there = (1970..=2399).contains(&year)
+            && (1..=12).contains(&month)
+            && (1..=month_days(year, month)).contains(&day);
+        if there {
+            Ok(Date { year, month, day })
+        } else {
+            Err(NoDate)
+        }
+    }
+}
+
+impl Date {
+    // The number of its day.
+    fn number(self) -> u32
+        ensures { result ≡ day_of (date self.year self.month self.day) }
+    {
+        days_since(self.year) + days_before(self.year, self.month) + (self.day - 1)
+    }
 }
 
 // The days of the months before a month.
@@ -48,9 +79,10 @@ fn days_before(year: u32, month: u32) -> u32
 {
     let days = BEFORE[month as usize];
     if (month > 2) & is_leap(year) {
-        return days + 1;
+        days + 1
+    } else {
+        days
     }
-    days
 }
 
 // The days of the years from 1970 to the one before.
@@ -63,14 +95,19 @@ fn days_since(year: u32) -> u32
     365 * (year - 1970) + (last / 4 + last / 400 - last / 100 - 477)
 }
 
-// The number of a date's day; 0 where there is no such date.
-pub fn day_number(date: u32) -> u32
-    ensures { result ≡ day_number date }
+// Whether a number is a date's.
+pub fn is_date(x: u32) -> bool
+    ensures { result ≡ is_date x }
 {
-    if !is_date(date) {
-        return 0;
+    Date::try_from(x).is_ok()
+}
+
+// The number of a date's day; 0 where there is no such date.
+pub fn day_number(x: u32) -> u32
+    ensures { result ≡ day_number x }
+{
+    match Date::try_from(x) {
+        Ok(date) => date.number(),
+        Err(_) => 0,
     }
-    let year = date / 10000;
-    let month = date / 100 % 100;
-    days_since(year) + days_before(year, month) + (date % 100 - 1)
 }

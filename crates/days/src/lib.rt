@@ -5,5 +5,4 @@ mod dates;
 mod deadlines;
 mod lists;
 
-pub use deadlines::banked;
-pub use lists::{Listed, list_of, sound_days, unlisted};
+pub use lists::{ShutDays, all_exist};

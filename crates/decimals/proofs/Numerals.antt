@@ -1,13 +1,12 @@
--- The fewest digits of a number, as `io::decimal` promises them, are its text; a number of 64 bits has at most 20.
-use Prim.Native.Nat.{ℕ, zero, suc, ◌+◌, ◌-◌, ◌*◌, ◌/◌, ◌%◌, ◌^◌, ◌≤◌, ◌<◌}
+-- The fewest digits of a number, as `io::decimal` promises them, are its text.
+use Prim.Native.Nat.{ℕ, zero, suc, ◌-◌, ◌/◌, ◌%◌, ◌^◌, ◌≤◌, ◌<◌}
 use native.Mathlib.Nat.{pow-suc}
 use native.Mathlib.Omega.{arith}
 use mathlib.Core.Path.{◌≡◌, refl, ap, ◌∙◌}
 use mathlib.Core.Bool.{Bool, true, false, cond}
 use mathlib.Core.List.{[], ◌∷◌, ◌++◌}
-use borrow.Author.Tests.{ltb-true, ltb-false, lt-ltb, leb-true, leb-false}
-use lib.Dec.{ltb, leb}
-use lib.Pow.{pow-add}
+use borrow.Author.Tests.{ltb-true, ltb-false, lt-ltb}
+use lib.Dec.{ltb}
 use Rattle.io.specs.Digits.{hex_digit_ascii, last_digits, IsDigitCount}
 use Rattle.decimals.specs.Numbers.{digit, spelled, decimal}
 
@@ -60,15 +59,3 @@ spelled_law (suc f) n k l w = by_test (ltb n 10) refl (λ j. spelled_law f (n / 
 pub decimal_law : (n k : ℕ) → IsDigitCount 10 1 n k → last_digits 10 k n ≡ decimal n
 unfolding decimal
 decimal_law n k w = spelled_law n n k (omega arith) w
-
--- ---- 64 bits
-
-pub few : (n k : ℕ) → n < 2 ^ 64 → IsDigitCount 10 1 n k → k ≤ 20
-few n k h f = go (leb k 20) refl
-  where
-    large : 20 < k → 10 ^ 20 * 10 ^ (k - 21) ≤ n
-    large m = let e : 20 + (k - 21) ≡ k - 1 = omega arith in rw (← pow-add 10 20 (k - 21), e) (f.2 (omega arith))
-
-    go : (x : Bool) → leb k 20 ≡ x → k ≤ 20
-    go true e = leb-true k 20 e
-    go false e = absurd (omega (arith, large (leb-false k 20 e), ten_pos (k - 21), h))

@@ -1,32 +1,37 @@
 -- Rows of numbers, number by number.
-use Prim.Native.Nat.{ℕ, suc, ◌+◌, ◌≤◌, ◌<◌}
-use native.Mathlib.Numerals.{add-one}
-use native.Mathlib.Omega.{arith}
-use mathlib.Core.Path.{◌≡◌, sym, ap, ◌∙◌}
-use mathlib.Core.List.{List, [], ◌∷◌, ◌++◌}
-use lib.ListN.{length, drop, get_or, drop_of_length-le}
-use lib.Seq.{drop-cons, append_snoc}
+use Rattle.std.proofs.Common.{◌≡◌, ℕ, ◌+◌, ◌<◌, ◌≤◌, List, [], ◌∷◌, ◌++◌, append_assoc, append-nil, add-one, arith, get_or, length, take, refl, sym, ap, ◌∙◌}
+use Rattle.std.proofs.Math.Seq.{take-suc, take_all}
 use Rattle.decimals.specs.Numbers.{decimal, closer, row}
 
--- The last number is closed by 0A, any other by a blank.
-pub closes_last : (ns : List ℕ) (k : ℕ) → k ≡ length ns → 10 ≡ closer (drop k ns)
-unfolding closer
-closes_last ns k e = let h : length ns ≤ k = omega arith in rw (drop_of_length-le ns h)
+-- Numbers that others follow: each with a blank after it.
+unfoldable pub blanked : List ℕ → List ℕ
+blanked [] = []
+blanked (n ∷ ns) = (decimal n ++ (32 ∷ [])) ++ blanked ns
 
-pub closes_other : (ns : List ℕ) (k : ℕ) → k < length ns → 32 ≡ closer (drop k ns)
-unfolding closer
-closes_other ns k h = rw (drop-cons ns k 0)
+pub none_yet : (t : List ℕ) → t ++ blanked [] ≡ t
+unfolding blanked
+none_yet t = append-nil t
 
--- A number and the byte that closes it, and the rest of the row.
-pub row_split : (ns : List ℕ) (i x : ℕ) → i < length ns → x ≡ closer (drop (i + 1) ns)
-    → row (drop i ns) ≡ (decimal (get_or ns i 0) ++ (x ∷ [])) ++ row (drop (i + 1) ns)
+blanked_more : (ns : List ℕ) (n : ℕ) → blanked (ns ++ (n ∷ [])) ≡ blanked ns ++ (decimal n ++ (32 ∷ []))
+unfolding blanked
+blanked_more [] n = append-nil (decimal n ++ (32 ∷ []))
+blanked_more (m ∷ ns) n = rw (blanked_more ns n) (sym (append_assoc (decimal m ++ (32 ∷ [])) (blanked ns) (decimal n ++ (32 ∷ []))))
+
+-- The first so many, and one more.
+pub blanked_take : (ns : List ℕ) (i : ℕ) → i < length ns → blanked (take (i + 1) ns) ≡ blanked (take i ns) ++ (decimal (get_or ns i 0) ++ (32 ∷ []))
+blanked_take ns i h = rw (add-one, take-suc ns i 0 h) (blanked_more (take i ns) (get_or ns i 0))
+
+pub row_none : (t ns : List ℕ) → length ns ≡ 0 → t ++ row ns ≡ t
 unfolding row
-row_split ns i x h e =
-    ap row (drop-cons ns i 0 h)
-    ∙ sym (append_snoc (decimal (get_or ns i 0)) (closer (drop (suc i) ns)) (row (drop (suc i) ns)))
-    ∙ rw (e, add-one)
+row_none t [] h = append-nil t
+row_none t (n ∷ ns) h = absurd (omega arith)
 
--- Past the last number.
-pub none_left : (ns : List ℕ) (i : ℕ) → length ns ≤ i → row (drop i ns) ≡ []
-unfolding row
-none_left ns i h = rw (drop_of_length-le ns h)
+row_last : (ns : List ℕ) (n : ℕ) → row (ns ++ (n ∷ [])) ≡ blanked ns ++ (decimal n ++ (10 ∷ []))
+unfolding blanked row closer
+row_last [] n = refl
+row_last (m ∷ []) n = simp append_assoc
+row_last (m ∷ (k ∷ ns)) n = ap (λ (t : List ℕ). decimal m ++ (32 ∷ t)) (row_last (k ∷ ns) n) ∙ simp append_assoc
+
+-- The last number closes the row.
+pub row_closed : (ns all : List ℕ) (n i : ℕ) → all ≡ ns ++ (n ∷ []) → length ns ≤ i → row all ≡ blanked (take i ns) ++ (decimal n ++ (10 ∷ []))
+row_closed ns all n i e h = rw (e, take_all i ns h) (row_last ns n)

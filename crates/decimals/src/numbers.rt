@@ -1,65 +1,36 @@
 // Numbers in a row, as text: in decimal, a blank between two, and the byte 0A at the end.
-ghost use Rattle.std.specs.Prelude.{◌≡◌, [], ◌∷◌, ◌++◌, ◌+◌, ◌*◌, ◌<◌, ◌≤◌, length, take, drop};
-ghost use Rattle.io.specs.Counts.{IsPrefixLen};
-ghost use Rattle.wire.specs.Parts.{pasted};
-ghost use Rattle.decimals.specs.Numbers.{decimal, closer, row};
+ghost use Rattle.std.specs.Prelude.{◌≡◌, [], ◌∷◌, ◌++◌, ◌+◌, ◌*◌, ◌≤◌, length};
+ghost use Rattle.arrayvec.specs.ArrayVec.{array_vec_len};
+ghost use Rattle.decimals.specs.Numbers.{decimal, row};
 
-use wire::copy_into;
+use arrayvec::ArrayVec;
 
-// A number's digits, at the start of the bytes.
-#[derive(Drop)]
-struct Digits {
-    bytes: [u8; 20],
-    n: usize,
+// Appends n and then the byte that closes it.
+#[tactic(auto, using(crate::proofs::Numerals::decimal_law, std::proofs::Common::append_assoc))]
+fn put_number<const ROOM: usize>(out: &mut ArrayVec<u8, ROOM>, n: u64, close: u8)
+    requires { array_vec_len out.old + 21 ≤ ROOM }
+    ensures text { out.new.items ≡ out.old.items ++ (decimal n ++ (close ∷ [])) }
+    ensures size { array_vec_len out.new ≤ array_vec_len out.old + 21 }
+{
+    // An array with a count beside it: `io::decimal` asks for the one and answers the other.
+    let mut digits = [0u8; 20];
+    let count = io::decimal(n, &mut digits);
+    out.try_extend_from_slice(&digits[..count]).unwrap();
+    out.push(close);
 }
 
-fn digits_of(n: u64) -> Digits
-    ensures prefix_len { IsPrefixLen result.n result.bytes }
-    ensures bytes_value { (take result.n result.bytes ≡ decimal n) × (result.n ≤ 20) }
+// Appends a row of numbers.
+#[tactic(auto, using(crate::proofs::Rows::row_closed, crate::proofs::Rows::row_none, crate::proofs::Rows::none_yet, crate::proofs::Rows::blanked_take, std::proofs::Common::append_assoc))]
+pub fn put_row<const ROOM: usize>(out: &mut ArrayVec<u8, ROOM>, numbers: &[u64])
+    requires { array_vec_len out.old + 21 * length numbers.now ≤ ROOM }
+    ensures text { out.new.items ≡ out.old.items ++ row numbers.now }
+    ensures size { array_vec_len out.new ≤ array_vec_len out.old + 21 * length numbers.now }
 {
-    let mut bytes = [0u8; 20];
-    let k = io::decimal(n, &mut bytes);
-    Digits { bytes, n: k }
-}
-
-// Writes n at a place of out, then the byte that closes it, and answers the place after that.
-fn put_number(out: &mut [u8], at: usize, n: u64, close: u8) -> usize
-    requires { at + 21 ≤ length out.old }
-    ensures { (out.new ≡ pasted out.old at (decimal n ++ (close ∷ [])))
-        × (result ≡ at + length (decimal n ++ (close ∷ []))) × (result ≤ at + 21) }
-{
-    let digits = digits_of(n);
-    let bytes = digits.bytes;
-    let k = digits.n;
-    copy_into(&bytes[..k], out, at);
-    out[at + k] = close;
-    at + k + 1
-}
-
-// The byte that closes number i.
-fn closer_of(numbers: &[u64], i: usize) -> u8
-    requires { i < length numbers.now }
-    ensures { result ≡ closer (drop (i + 1) numbers.now) }
-{
-    if i + 1 == numbers.len() {
-        return 0x0A;
+    let Some((last, others)) = numbers.split_last() else {
+        return;
+    };
+    for n in others {
+        put_number(out, *n, b' ');
     }
-    0x20
-}
-
-// Writes a row of numbers at a place of out, and answers the place after it.
-pub fn put_row(out: &mut [u8], at: usize, numbers: &[u64]) -> usize
-    requires { at + 21 * length numbers.now ≤ length out.old }
-    ensures { (out.new ≡ pasted out.old at (row numbers.now))
-        × (result ≡ at + length (row numbers.now)) × (result ≤ at + 21 * length numbers.now) }
-{
-    let mut place = at;
-    let mut i: usize = 0;
-    while i < numbers.len() {
-        let close = closer_of(numbers, i);
-        let next = put_number(out, place, numbers[i], close);
-        place = next;
-        i += 1;
-    }
-    place
+    put_number(out, *last, b'\n');
 }

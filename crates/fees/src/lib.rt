@@ -15,6 +15,7 @@ pub fn fee_fits(fee: u32) -> bool
 }
 
 // The whole part of amount × rate / 10,000, of the amount's ten thousands and of its rest, so that no product passes 64 bits.
+#[tactic(auto, using(machine::proofs::Fees::fee_parts))]
 fn fee_of(amount: u64, rate: u64) -> u64
     requires { rate ≤ highest }
     ensures value { result ≡ fee_of rate amount }
@@ -24,18 +25,16 @@ fn fee_of(amount: u64, rate: u64) -> u64
 }
 
 // The answer with the merchant's payment divided: the fee, and the rest to him.
+#[tactic(auto, unfolding(machine::specs::Fee::charged))]
 pub fn charged(answer: Answer, rate: u32) -> Answer
     requires { rate ≤ highest }
     ensures { result ≡ charged rate answer }
 {
-    let customer = answer.customer;
     let amount = answer.merchant.0;
-    let fee = fee_of(amount, rate as u64);
+    let fee = fee_of(amount, u64::from(rate));
     Answer {
-        customer,
         merchant: Cents(amount - fee),
-        steps: answer.steps,
-        refusal: answer.refusal,
         fee: Cents(fee),
+        ..answer
     }
 }

@@ -1,117 +1,105 @@
 // Values written into a book from outside, as whoever lends it may.
-use arbiter::{Book, Cents, Channel, Seconds, Setup};
-use wire::{u64_at, wide};
+use arbiter::{Book, Cents, Channel, Seconds};
+use wire::u64_at;
 
-// A leaf that a channel remembers; 9 is the first and 10 the second. What does not fit is left out.
-fn with_leaf(channel: Channel, field: u8, value: u64) -> Channel {
-    let mut after = channel;
-    if value < 4294967296 {
-        let mut leaves = after.leaves;
-        if field == 9 {
-            leaves.first = value as u32;
-        }
-        if field == 10 {
-            leaves.second = value as u32;
-        }
-        after.leaves = leaves;
-    }
-    after
+// What a value is written over, by its number: the book's mark and clock, a field of a channel, what the book keeps of its opening, or a day of its list.
+#[derive(Clone, Copy)]
+enum Field {
+    Mark = 0,
+    Clock = 1,
+    Status = 2,
+    Delay = 3,
+    Deadline = 4,
+    Kept = 5,
+    CustomerDeposit = 6,
+    MerchantDeposit = 7,
+    DefaultDelay = 8,
+    FirstLeaf = 9,
+    SecondLeaf = 10,
+    Fee = 11,
+    Dated = 12,
+    Count = 13,
+    Day = 14,
 }
 
-// A value in a field of a channel; 2 to 7 name the fields. What does not fit its field is left out.
-fn changed(channel: Channel, field: u8, value: u64) -> Channel {
-    let mut after = channel;
-    let cents = Cents(value);
-    let time = Seconds(value);
-    if field == 2 {
-        if value < 4294967296 {
-            after.status = value as u32;
+// A number that names no field.
+#[derive(Clone, Copy)]
+struct UnknownField;
+
+impl TryFrom<u8> for Field {
+    type Error = UnknownField;
+
+    fn try_from(number: u8) -> Result<Field, UnknownField> {
+        match number {
+            0 => Ok(Field::Mark),
+            1 => Ok(Field::Clock),
+            2 => Ok(Field::Status),
+            3 => Ok(Field::Delay),
+            4 => Ok(Field::Deadline),
+            5 => Ok(Field::Kept),
+            6 => Ok(Field::CustomerDeposit),
+            7 => Ok(Field::MerchantDeposit),
+            8 => Ok(Field::DefaultDelay),
+            9 => Ok(Field::FirstLeaf),
+            10 => Ok(Field::SecondLeaf),
+            11 => Ok(Field::Fee),
+            12 => Ok(Field::Dated),
+            13 => Ok(Field::Count),
+            14 => Ok(Field::Day),
+            _ => Err(UnknownField),
         }
     }
-    if field == 3 {
-        if value < 4294967296 {
-            after.delay = value as u32;
-        }
-    }
-    if field == 4 {
-        after.deadline = time;
-    }
-    if field == 5 {
-        after.kept = cents;
-    }
-    if field == 6 {
-        let mut customer = after.customer;
-        customer.deposit = cents;
-        after.customer = customer;
-    }
-    if field == 7 {
-        let mut merchant = after.merchant;
-        merchant.deposit = cents;
-        after.merchant = merchant;
-    }
-    after
 }
 
-// Day n of a book's list.
-fn with_day(setup: Setup, n: usize, value: u64) -> Setup {
-    let mut after = setup;
-    if value < 4294967296 {
-        if n < 64 {
-            after.days[n] = value as u32;
-        }
+// What does not fit is left out.
+fn put(place: &mut u32, value: u64) {
+    if let Ok(fitting) = u32::try_from(value) {
+        *place = fitting;
     }
-    after
 }
 
-// What the book keeps of its opening; 8 is the default delay, 11 the fee, 12 whether there is a list, and 13 its count. What does not fit is left out.
-fn kept(setup: Setup, field: u8, value: u64) -> Setup {
-    let mut after = setup;
-    if value < 4294967296 {
-        if field == 8 {
-            after.delay = value as u32;
-        }
-        if field == 11 {
-            after.fee = value as u32;
-        }
-        if field == 12 {
-            after.dated = value as u32;
-        }
-        if field == 13 {
-            after.count = value as u32;
-        }
+fn put_in_channel(channel: &mut Channel, field: Field, value: u64) {
+    match field {
+        Field::Status => put(&mut channel.status, value),
+        Field::Delay => put(&mut channel.delay, value),
+        Field::Deadline => channel.deadline = Seconds(value),
+        Field::Kept => channel.kept = Cents(value),
+        Field::CustomerDeposit => channel.customer.deposit = Cents(value),
+        Field::MerchantDeposit => channel.merchant.deposit = Cents(value),
+        Field::FirstLeaf => put(&mut channel.leaves.first, value),
+        Field::SecondLeaf => put(&mut channel.leaves.second, value),
+        // The seven fields of the book itself: `overwrite` names them.
+        _ => {}
     }
-    after
 }
 
-// The field, the channel or the day, and the value, in ten bytes; 0 is the mark, 1 the clock and 14 a day.
-pub fn overwritten(book: Book, bytes: &[u8]) -> Book {
+// The field, the channel or the day, and the value, in ten bytes.
+pub fn overwrite(book: &mut Book, bytes: &[u8]) {
     if bytes.len() != 10 {
-        return book;
+        return;
     }
-    let field = bytes[0];
-    let n = wide(bytes[1]) as usize;
+    let Ok(field) = Field::try_from(bytes[0]) else {
+        return;
+    };
+    let n = usize::from(bytes[1]);
     let value = u64_at(bytes, 2);
-    let mut after = book;
-    if field == 0 {
-        after.mark = value;
-        return after;
+    match field {
+        Field::Mark => book.mark = value,
+        Field::Clock => book.clock = Seconds(value),
+        Field::DefaultDelay => put(&mut book.setup.delay, value),
+        Field::Fee => put(&mut book.setup.fee, value),
+        Field::Dated => put(&mut book.setup.dated, value),
+        Field::Count => put(&mut book.setup.count, value),
+        Field::Day => {
+            if let Some(day) = book.setup.days.get_mut(n) {
+                put(day, value);
+            }
+        }
+        // The eight fields of a channel: `put_in_channel` names them.
+        _ => {
+            if let Some(channel) = book.channels.get_mut(n) {
+                put_in_channel(channel, field, value);
+            }
+        }
     }
-    if field == 1 {
-        let clock = Seconds(value);
-        after.clock = clock;
-        return after;
-    }
-    if field == 14 {
-        let setup = with_day(after.setup, n, value);
-        after.setup = setup;
-        return after;
-    }
-    let setup = kept(after.setup, field, value);
-    after.setup = setup;
-    if n < 64 {
-        let ch = after.channels[n];
-        let ch = changed(ch, field, value);
-        after.channels[n] = with_leaf(ch, field, value);
-    }
-    after
 }

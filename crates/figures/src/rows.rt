@@ -1,158 +1,148 @@
 // A row is a byte that says what it is, two bytes of length, and so many bytes.
-ghost use Rattle.std.specs.Prelude.{◌≡◌, ◌+◌, ◌≤◌, length};
+ghost use Rattle.std.specs.Prelude.{◌<◌, ◌≤◌, IfSome, length};
 
-use crate::book::overwritten;
+use crate::book::overwrite;
 use crate::lines::{print_answer, print_due, print_opened, print_reading};
 use arbiter::{Book, Settings};
+use arrayvec::ArrayVec;
 use std::io;
+use streams::field;
 use wire::{u16_at, u32_at};
 
-// An opening, with the row's bytes as the id.
-fn open_row(rt: &impl Print, book: Book, bytes: &[u8]) -> io::Result<Book> {
-    let opened = arbiter::opened(book, bytes);
-    print_opened(rt, opened.refusal)?;
-    Ok(opened.book)
+// What a row is, by its first byte.
+#[derive(Clone, Copy)]
+enum Kind {
+    Open,
+    Command,
+    Reading,
+    Due,
+    OpenWith,
+    Again,
+    OpenDated,
+    Write,
 }
 
-// An opening with settings and no list of dates: four bytes of default delay, four of fee, then the id. A number that is no date stands there unseen.
-fn open_with_row(rt: &impl Print, book: Book, bytes: &[u8]) -> io::Result<Book> {
-    if bytes.len() < 8 {
-        return Ok(book);
+impl From<u8> for Kind {
+    fn from(byte: u8) -> Kind {
+        match byte {
+            1 => Kind::Open,
+            2 => Kind::Command,
+            3 => Kind::Reading,
+            4 => Kind::Due,
+            6 => Kind::OpenWith,
+            7 => Kind::Again,
+            8 => Kind::OpenDated,
+            _ => Kind::Write,
+        }
     }
-    let settings = Settings {
+}
+
+#[derive(Clone, Copy)]
+struct Row<'a> {
+    kind: Kind,
+    bytes: &'a [u8],
+}
+
+// The row that m begins with, and what stands after it. None where no whole row stands there.
+fn first_row(m: &[u8]) -> Option<(Row<'_>, &[u8])>
+    ensures { IfSome result (λ p. length p.1.now < length m.now) }
+{
+    let (kind, rest) = m.split_first()?;
+    let (bytes, rows) = field(rest)?;
+    let kind = Kind::from(*kind);
+    Some((Row { kind, bytes }, rows))
+}
+
+// The settings in the first eight bytes of a row: four of default delay, four of fee.
+fn settings_in(bytes: &[u8], dated: bool) -> Settings
+    requires { 8 ≤ length bytes.now }
+{
+    Settings {
         delay: u32_at(bytes, 0),
         fee: u32_at(bytes, 4),
-        dated: false,
-    };
-    let unseen = [0u32; 1];
-    let opened = arbiter::opened_with(book, &bytes[8..], settings, &unseen);
-    print_opened(rt, opened.refusal)?;
-    Ok(opened.book)
+        dated,
+    }
 }
 
-// The numbers of four bytes each from the place 24 on.
-fn dates_in(bytes: &[u8]) -> [u32; 72]
-    ensures { length result ≡ 72 }
-{
-    let mut dates = [0u32; 72];
-    for i in 0..72 {
-        if 28 + 4 * i <= bytes.len() {
-            dates[i] = u32_at(bytes, 24 + 4 * i);
-        }
+// An opening with settings and no list of dates: the settings, then the id. A number that is no date stands there unseen.
+fn open_with_row(rt: &impl Print, book: &mut Book, bytes: &[u8]) -> io::Result<()> {
+    if bytes.len() < 8 {
+        return Ok(());
+    }
+    let settings = settings_in(bytes, false);
+    print_opened(rt, arbiter::open_with(book, &bytes[8..], settings, &[0]))
+}
+
+// The numbers of four bytes each, at most 72.
+fn dates_in(bytes: &[u8]) -> ArrayVec<u32, 72> {
+    let mut dates = ArrayVec::new();
+    let (numbers, _) = bytes.as_chunks::<4>();
+    for number in numbers {
+        let _ = dates.try_push(u32::from_be_bytes(*number));
     }
     dates
 }
 
-// The same with a list: the default delay, the fee, an id of 16 bytes, then four bytes for each of at most 72 dates.
-fn open_dated_row(rt: &impl Print, book: Book, bytes: &[u8]) -> io::Result<Book> {
-    if bytes.len() < 24 {
-        return Ok(book);
+// The same with a list: the settings, an id of 16 bytes, then four bytes for each of at most 72 dates.
+fn open_dated_row(rt: &impl Print, book: &mut Book, bytes: &[u8]) -> io::Result<()> {
+    if bytes.len() < 24 || bytes.len() > 312 {
+        return Ok(());
     }
-    if bytes.len() > 312 {
-        return Ok(book);
-    }
-    let dates = dates_in(bytes);
-    let count = (bytes.len() - 24) / 4;
-    let settings = Settings {
-        delay: u32_at(bytes, 0),
-        fee: u32_at(bytes, 4),
-        dated: true,
-    };
-    let opened = arbiter::opened_with(book, &bytes[8..24], settings, &dates[..count]);
-    print_opened(rt, opened.refusal)?;
-    Ok(opened.book)
-}
-
-// The row's bytes as a command.
-fn command_row(rt: &impl Print, book: Book, bytes: &[u8]) -> io::Result<Book> {
-    let stepped = arbiter::step(book, bytes);
-    let answer = stepped.answer;
-    print_answer(rt, answer)?;
-    Ok(stepped.book)
+    let settings = settings_in(bytes, true);
+    let dates = dates_in(&bytes[24..]);
+    print_opened(
+        rt,
+        arbiter::open_with(book, &bytes[8..24], settings, dates.as_slice()),
+    )
 }
 
 // A reading of the channel that two bytes name.
-fn reading_row(rt: &impl Print, book: Book, bytes: &[u8]) -> io::Result<()> {
+fn reading_row(rt: &impl Print, book: &Book, bytes: &[u8]) -> io::Result<()> {
     if bytes.len() != 2 {
         return Ok(());
     }
-    let reading = arbiter::read_of(book, u16_at(bytes, 0) as usize);
-    print_reading(rt, reading)
+    print_reading(rt, arbiter::read(book, u16_at(bytes, 0) as usize))
 }
 
 // What a row makes of the book.
-fn row(rt: &impl Print, book: Book, kind: u8, bytes: &[u8]) -> io::Result<Book> {
-    if kind == 1 {
-        return open_row(rt, book, bytes);
+fn run_row(rt: &impl Print, book: &mut Book, row: Row<'_>) -> io::Result<()> {
+    let bytes = row.bytes;
+    match row.kind {
+        Kind::Open => print_opened(rt, arbiter::open(book, bytes)),
+        Kind::Command => print_answer(rt, arbiter::apply(book, bytes)),
+        Kind::Reading => reading_row(rt, book, bytes),
+        Kind::Due => print_due(rt, arbiter::due(book)),
+        Kind::OpenWith => open_with_row(rt, book, bytes),
+        Kind::OpenDated => open_dated_row(rt, book, bytes),
+        Kind::Again | Kind::Write => {
+            overwrite(book, bytes);
+            Ok(())
+        }
     }
-    if kind == 2 {
-        return command_row(rt, book, bytes);
-    }
-    if kind == 3 {
-        reading_row(rt, book, bytes)?;
-        return Ok(book);
-    }
-    if kind == 4 {
-        print_due(rt, arbiter::due_of(book))?;
-        return Ok(book);
-    }
-    if kind == 6 {
-        return open_with_row(rt, book, bytes);
-    }
-    if kind == 8 {
-        return open_dated_row(rt, book, bytes);
-    }
-    Ok(overwritten(book, bytes))
 }
 
-// Where the row that begins at `at` ends; `at` where no whole row begins there.
-fn row_end(m: &[u8], at: usize) -> usize
-    requires { at ≤ length m.now }
-    ensures upper_bound { result ≤ length m.now }
-    ensures lower_bound { at ≤ result }
-{
-    let left = m.len() - at;
-    if left < 3 {
-        return at;
+// The row of m that begins at the place in four bytes.
+fn row_at<'a>(m: &'a [u8], place: &[u8]) -> Option<Row<'a>> {
+    if place.len() != 4 {
+        return None;
     }
-    let size = u16_at(m, at + 1) as usize;
-    if left - 3 < size {
-        return at;
-    }
-    at + 3 + size
+    let (row, _) = first_row(m.get(u32_at(place, 0) as usize..)?)?;
+    Some(row)
 }
 
-// A row of m, or once more the row that begins at the place in its four bytes.
-fn row_of(rt: &impl Print, book: Book, m: &[u8], kind: u8, bytes: &[u8]) -> io::Result<Book> {
-    if kind != 7 {
-        return row(rt, book, kind, bytes);
-    }
-    if bytes.len() != 4 {
-        return Ok(book);
-    }
-    let at = u32_at(bytes, 0) as usize;
-    if at >= m.len() {
-        return Ok(book);
-    }
-    let end = row_end(m, at);
-    if end - at < 3 {
-        return Ok(book);
-    }
-    row(rt, book, m[at], &m[at + 3..end])
-}
-
-// Runs every whole row of m, on a book to lend.
+// Runs every whole row of m, on a book to lend; a row may stand for another one, once more.
 pub fn run(rt: &impl Print, m: &[u8]) -> io::Result<()> {
     let mut book = arbiter::blank();
-    let mut at: usize = 0;
-    while at < m.len() {
-        let end = row_end(m, at);
-        if end - at < 3 {
-            return Ok(());
+    let mut rest = m;
+    while let Some((row, after)) = first_row(rest) {
+        let meant = match row.kind {
+            Kind::Again => row_at(m, row.bytes),
+            _ => Some(row),
+        };
+        if let Some(row) = meant {
+            run_row(rt, &mut book, row)?;
         }
-        let next = row_of(rt, book, m, m[at], &m[at + 3..end])?;
-        book = next;
-        at = end;
+        rest = after;
     }
     Ok(())
 }

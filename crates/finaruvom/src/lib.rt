@@ -1,13 +1,14 @@
 // What a C or a Rust program calls: the static library libfinaruvom.a.
 #![tactic(auto)]
 
-ghost use Rattle.std.specs.Prelude.{◌≡◌, map};
+ghost use Rattle.std.specs.Prelude.{◌≡◌, map, MatchResult};
 ghost use Rattle.sha256.specs.Answer.{hash_answer};
 ghost use Rattle.lms.specs.Check.{check_of};
 ghost use Rattle.machine.specs.Format.{size};
 ghost use Rattle.machine.specs.Book.{layout, reading};
 ghost use Rattle.machine.specs.Opening.{under, plainly, plain_settings, desk_settings, opening};
 ghost use Rattle.machine.specs.Due.{due};
+ghost use Rattle.machine.specs.Outcomes.{refusal_number};
 ghost use Rattle.machine.specs.Real.{real_step};
 ghost use Rattle.journal.specs.Runs.{run_of, ran_of};
 ghost use Rattle.signer.specs.Answers.{make_of, sign_of};
@@ -17,9 +18,10 @@ ghost use Rattle.bank.specs.Answers.{collect_of};
 ghost use Rattle.finaruvom.specs.Fields.{fields_of};
 ghost use Rattle.finaruvom.specs.Release.{released};
 
-use arbiter::{Answer, Book, Found, Reading, Settings};
+use arbiter::{Answer, Book, Reading, Refusal, Settings};
 use bank::Counted;
 use journal::{Line, Ran};
+use lms::Outcome;
 use machine::LAYOUT;
 use signer::{Signature, Signer};
 
@@ -59,10 +61,16 @@ pub extern "C" fn finaruvom_hash(bytes: &[u8], digest: &mut [u8; 32]) -> u32
     ensures refusal { result ≡ (hash_answer bytes.now).refusal }
     ensures digest { digest.new ≡ (hash_answer bytes.now).digest }
 {
-    let hashed = sha256::hash(bytes);
-    let d = hashed.digest;
-    *digest = d;
-    hashed.refusal
+    match sha256::hash(bytes) {
+        Ok(found) => {
+            *digest = found;
+            0
+        }
+        Err(refusal) => {
+            *digest = [0; 32];
+            refusal.into()
+        }
+    }
 }
 
 // The signature check: verdict, chain steps and leaf, which is 0 where the verdict is no, are written, and the refusal, or 0, is the result.
@@ -81,10 +89,17 @@ pub extern "C" fn finaruvom_check(
     ensures leaf { leaf.new ≡ (check_of key.now message.now signature.now).leaf }
 {
     let checked = lms::check(key, message, signature);
-    *verdict = checked.verdict;
-    *steps = checked.steps;
-    *leaf = checked.leaf;
-    checked.refusal
+    let outcome = checked.unwrap_or(Outcome {
+        steps: 0,
+        leaf: None,
+    });
+    *verdict = outcome.leaf.is_some();
+    *steps = outcome.steps;
+    *leaf = outcome.leaf.unwrap_or(0);
+    match checked {
+        Ok(_) => 0,
+        Err(too_long) => too_long.into(),
+    }
 }
 
 // The whole length of the command that begins with this byte; 0 where it begins none.
@@ -95,13 +110,23 @@ pub extern "C" fn finaruvom_size(first: u8) -> usize
     arbiter::size_of(first)
 }
 
+// What C is told of an opening: the refusal's number, or 0.
+fn number(done: Result<(), Refusal>) -> u32
+    ensures { MatchResult done (λ _. result ≡ 0) (λ e. result ≡ refusal_number e) }
+{
+    match done {
+        Ok(()) => 0,
+        Err(refusal) => refusal.into(),
+    }
+}
+
 // The plain opening: makes any lent book fresh, with the id, and answers 0; an id that is not 16 bytes long gives 2 and keeps every value.
 #[unsafe(no_mangle)]
 pub extern "C" fn finaruvom_open(book: &mut Book, id: &[u8]) -> u32
     ensures { (result ≡ (opening book.old (plainly id.now)).refusal)
         × (book.new ≡ (opening book.old (plainly id.now)).book) }
 {
-    arbiter::open(book, id)
+    number(arbiter::open(book, id))
 }
 
 // The settings of the plain opening.
@@ -132,7 +157,7 @@ pub extern "C" fn finaruvom_open_with(
     ensures { (result ≡ (opening book.old (under settings dates.now id.now)).refusal)
         × (book.new ≡ (opening book.old (under settings dates.now id.now)).book) }
 {
-    arbiter::open_with(book, id, settings, dates)
+    number(arbiter::open_with(book, id, settings, dates))
 }
 
 // Carries a command out on the lent book, or refuses it and keeps every value.
@@ -152,7 +177,7 @@ pub extern "C" fn finaruvom_read(book: &Book, n: usize) -> Reading
     arbiter::read(book, n)
 }
 
-// The channel that is due next; 0 where there is none.
+// The channel that is due next; 0 where there is none. C has no Option, so a flag stands beside the number.
 #[repr(C)]
 #[derive(Clone, Copy)]
 pub struct NextDue {
@@ -160,27 +185,20 @@ pub struct NextDue {
     pub channel: u8,
 }
 
-fn next_due(book: Book) -> NextDue
-    ensures { result ≡ fields_of (due book) }
-{
-    match arbiter::due_of(book) {
-        Found::At(n) => NextDue {
-            some: true,
-            channel: n,
-        },
-        Found::Nothing => NextDue {
-            some: false,
-            channel: 0,
-        },
-    }
-}
-
 #[unsafe(no_mangle)]
 pub extern "C" fn finaruvom_due(book: &Book) -> NextDue
     ensures { result ≡ fields_of (due book.now) }
 {
-    let lent = *book;
-    next_due(lent)
+    match arbiter::due(book) {
+        Some(n) => NextDue {
+            some: true,
+            channel: n,
+        },
+        None => NextDue {
+            some: false,
+            channel: 0,
+        },
+    }
 }
 
 // Runs a journal's commands on the lent book and writes a line for each; later lines keep their content.
@@ -200,7 +218,10 @@ pub extern "C" fn finaruvom_make_key(signer: &mut Signer, seed: &[u8], id: &[u8]
     ensures { (result ≡ (make_of seed.now id.now).refusal)
         × (signer.new ≡ (make_of seed.now id.now).signer) }
 {
-    signer::make(signer, seed, id)
+    match signer::make(signer, seed, id) {
+        Ok(()) => 0,
+        Err(refusal) => refusal.into(),
+    }
 }
 
 // Signs with the lent signer's next leaf and moves it to the one after, or refuses with zeros and keeps every value: 2 for a nonce that is not 32 bytes long or a
@@ -210,7 +231,7 @@ pub extern "C" fn finaruvom_sign(signer: &mut Signer, nonce: &[u8], message: &[u
     ensures { (result ≡ (sign_of signer.old nonce.now message.now).signature)
         × (signer.new ≡ (sign_of signer.old nonce.now message.now).signer) }
 {
-    signer::sign(signer, nonce, message)
+    signer::sign(signer, nonce, message).into()
 }
 
 // Collects the payments above zero of commands and their lines: 18 where the list is too short for them; refused, it keeps every entry.
@@ -223,7 +244,7 @@ pub extern "C" fn finaruvom_collect(
     ensures { (result ≡ (collect_of commands.now lines.now list.old).answer)
         × (list.new ≡ (collect_of commands.now lines.now list.old).list) }
 {
-    bank::collect(commands, lines, list)
+    bank::collect(commands, lines, list).into()
 }
 
 // Writes every payment of the list as an entry: 17 where one cannot be written, then 18 where the buffer is too short; refused, it keeps every byte.
@@ -232,7 +253,7 @@ pub extern "C" fn finaruvom_write(list: &[[u64; 3]], buffer: &mut [u8]) -> Count
     ensures { (result ≡ (write_of (map payment_of list.now) buffer.old).answer)
         × (buffer.new ≡ (write_of (map payment_of list.now) buffer.old).buffer) }
 {
-    bank::write(list, buffer)
+    bank::write(list, buffer).into()
 }
 
 // Reads the payments of entries: 18 for a length that is no multiple of 11 or a list that is too short, then 19 for an entry that is not as one is written;
@@ -242,5 +263,5 @@ pub extern "C" fn finaruvom_read_payments(bytes: &[u8], list: &mut [[u64; 3]]) -
     ensures { (result ≡ (read_of bytes.now list.old).answer)
         × (list.new ≡ (read_of bytes.now list.old).list) }
 {
-    bank::read(bytes, list)
+    bank::read(bytes, list).into()
 }

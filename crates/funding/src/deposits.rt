@@ -1,48 +1,60 @@
 // 03 and 04: the two sides pay in. 05: the customer takes back what the merchant has not matched.
+#![tactic(auto, unfolding(machine::specs::Rules::fund_customer, machine::specs::Rules::fund_merchant, machine::specs::Rules::reclaim, machine::specs::Machine::ruling, machine::specs::Machine::concluded, machine::specs::Machine::answer, machine::specs::Checks::ask))]
+
 ghost use Rattle.std.specs.Prelude.{◌≡◌, cond, eqb, length};
 ghost use Rattle.machine.specs.Rules.{fund_customer, fund_merchant, reclaim};
 ghost use Rattle.machine.specs.Machine.{ruling, verdict};
+ghost use Rattle.machine.specs.Outcomes.{status_number, ruled_of};
 ghost use Rattle.machine.specs.Real.{lms_verdict};
 
-use checks::{ruled, signature_tested, tested, unjudged};
-use machine::{Cents, Channel, Context, Ruled};
+use checks::{Signed, ensure};
+use machine::{Accepted, Cents, Channel, Context, Refusal, Status};
 
 // The status that awaits a deposit, or the one past it where the deposit is 0.
-pub fn status_awaiting(deposit: Cents, awaiting: u32, past: u32) -> u32
-    ensures { result ≡ cond (eqb deposit.0 0) past awaiting }
+pub fn awaiting(deposit: Cents, status: Status, past: Status) -> Status
+    ensures { status_number result ≡ cond (eqb deposit.0 0) (status_number past) (status_number status) }
 {
-    if deposit.0 == 0 { past } else { awaiting }
+    if deposit == Cents(0) { past } else { status }
 }
 
-pub fn fund_customer(ch: Channel, paid: Cents) -> Ruled
-    ensures { result ≡ ruling ch (fund_customer paid.0 ch) }
+pub fn fund_customer(ch: Channel, paid: Cents) -> Result<Accepted, Refusal>
+    ensures { ruled_of ch 0 result ≡ ruling ch (fund_customer paid.0 ch) }
 {
-    let j = tested(unjudged(), 5, ch.status == 1);
-    let j = tested(j, 8, paid.0 == ch.customer.deposit.0);
-    let mut after = ch;
-    after.status = status_awaiting(ch.merchant.deposit, 2, 3);
-    ruled(j, ch, after, Cents(0), Cents(0))
+    ensure(ch.is(Status::AwaitingCustomer), Refusal::Status)?;
+    ensure(paid == ch.customer.deposit, Refusal::Amounts)?;
+    let next = awaiting(ch.merchant.deposit, Status::AwaitingMerchant, Status::Open);
+    Ok(Accepted::unpaid(ch.moved_to(next)))
 }
 
-pub fn fund_merchant(ch: Channel, paid: Cents) -> Ruled
-    ensures { result ≡ ruling ch (fund_merchant paid.0 ch) }
+pub fn fund_merchant(ch: Channel, paid: Cents) -> Result<Accepted, Refusal>
+    ensures { ruled_of ch 0 result ≡ ruling ch (fund_merchant paid.0 ch) }
 {
-    let j = tested(unjudged(), 5, ch.status == 2);
-    let j = tested(j, 8, paid.0 == ch.merchant.deposit.0);
-    let mut after = ch;
-    after.status = 3;
-    ruled(j, ch, after, Cents(0), Cents(0))
+    ensure(ch.is(Status::AwaitingMerchant), Refusal::Status)?;
+    ensure(paid == ch.merchant.deposit, Refusal::Amounts)?;
+    Ok(Accepted::unpaid(ch.moved_to(Status::Open)))
 }
 
-pub fn reclaim(ch: Channel, at: Context, command: &[u8]) -> Ruled
+pub fn reclaim(
+    ch: Channel,
+    at: Context,
+    command: &[u8],
+    steps: &mut u32,
+) -> Result<Accepted, Refusal>
     requires { length command.now ≡ 1455 }
-    ensures { result ≡ ruling ch (reclaim (verdict lms_verdict ch.customer.key at.id command.now 3 3) ch) }
+    ensures { ruled_of ch steps.new result ≡ ruling ch (reclaim (verdict lms_verdict ch.customer.key at.id command.now 3 3) ch) }
 {
-    let key = ch.customer.key;
     let id = at.id;
-    let j = tested(unjudged(), 5, ch.status == 2);
-    let by_customer = signature_tested(j, 12, key, id, command, 3, 3);
-    let mut after = ch;
-    after.status = 6;
-    ruled(by_customer.judged, ch, after, ch.customer.deposit, Cents(0))
+    let signed = Signed {
+        id,
+        command,
+        end: 3,
+    };
+    *steps = 0;
+    ensure(ch.is(Status::AwaitingMerchant), Refusal::Status)?;
+    signed.checked(ch.customer.key, 3, Refusal::CustomerSignature, steps)?;
+    Ok(Accepted {
+        channel: ch.moved_to(Status::Closed),
+        customer: ch.customer.deposit,
+        merchant: Cents(0),
+    })
 }

@@ -5,6 +5,6 @@ mod readings;
 mod soundness;
 mod sums;
 
-pub use readings::{held_of, read_channel, unread};
+pub use readings::{Sound, unread};
 pub use soundness::{delay_fits, sound_channel};
-pub use sums::{cents_if, sums_to, total_fits, total_of};
+pub use sums::{sums_to, total_fits};

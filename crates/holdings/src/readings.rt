@@ -1,61 +1,73 @@
 // A reading of one channel.
-ghost use Rattle.std.specs.Prelude.{◌≡◌, true, cond, replicate};
-ghost use Rattle.machine.specs.Book.{cents, seconds, held, sound_channel, no_reading, read_channel};
+ghost use Rattle.std.specs.Prelude.{◌≡◌, true};
+ghost use Rattle.machine.specs.Book.{cents, total, held, sound_channel, no_reading, read_channel};
 
-use crate::sums::{cents_if, total_of};
-use machine::{Cents, Channel, Reading, Seconds};
+use machine::{Cents, Channel, Reading, Seconds, Status};
 
-// What the channel holds, by its status.
-pub fn held_of(ch: Channel) -> Cents
-    requires { sound_channel ch ≡ true }
-    ensures { result ≡ cents (held ch) }
-{
-    if ch.status == 2 {
-        return ch.customer.deposit;
-    }
-    if (ch.status == 3) | (ch.status == 4) {
-        return total_of(ch);
-    }
-    cents_if(ch.status == 5, ch.kept)
+// A channel whose values are in their ranges.
+#[derive(Clone, Copy)]
+pub struct Sound {
+    pub channel: Channel,
+    ghost sound: { sound_channel channel ≡ true },
 }
 
-fn seconds_if(ok: bool, time: Seconds) -> Seconds
-    ensures { result ≡ cond ok time (seconds 0) }
-{
-    if ok { time } else { Seconds(0) }
-}
-
-fn lock_if(ok: bool, lock: [u8; 32]) -> [u8; 32]
-    ensures { result ≡ cond ok lock (replicate 32 0) }
-{
-    if ok {
-        return lock;
+impl Sound {
+    // The paper's T.
+    #[tactic(auto, unfolding(machine::specs::Book::total, machine::specs::Book::sound_channel))]
+    pub fn total(self) -> Cents
+        ensures { result ≡ cents (total self.channel) }
+    {
+        let ch = self.channel;
+        if ch.is(Status::Unused) {
+            return Cents(0);
+        }
+        Cents(ch.customer.deposit.0 + ch.merchant.deposit.0)
     }
-    [0u8; 32]
-}
 
-pub fn read_channel(ch: Channel) -> Reading
-    requires { sound_channel ch ≡ true }
-    ensures { result ≡ read_channel ch }
-{
-    let stored = ch.lock;
-    let total = total_of(ch);
-    let held = held_of(ch);
-    let deadline = seconds_if((ch.status == 4) | (ch.status == 5), ch.deadline);
-    let kept = cents_if(ch.status == 5, ch.kept);
-    let lock = lock_if(ch.status == 5, stored);
-    Reading {
-        total,
-        held,
-        deadline,
-        kept,
-        refusal: 0,
-        status: ch.status,
-        lock,
+    // What the channel holds, by its status.
+    #[tactic(auto, unfolding(machine::specs::Book::held))]
+    pub fn held(self) -> Cents
+        ensures { result ≡ cents (held self.channel) }
+    {
+        let ch = self.channel;
+        match Status::try_from(ch.status) {
+            Ok(Status::AwaitingMerchant) => ch.customer.deposit,
+            Ok(Status::Open | Status::MerchantClosing) => self.total(),
+            Ok(Status::CustomerClosing) => ch.kept,
+            _ => Cents(0),
+        }
+    }
+
+    // The deadline, the kept part and the lock are a closing's.
+    #[tactic(auto, unfolding(machine::specs::Book::read_channel))]
+    pub fn reading(self) -> Reading
+        ensures { result ≡ read_channel self.channel }
+    {
+        let ch = self.channel;
+        let lock = ch.lock;
+        let no_closing = Reading {
+            total: self.total(),
+            held: self.held(),
+            status: ch.status,
+            ..unread(0)
+        };
+        match Status::try_from(ch.status) {
+            Ok(Status::MerchantClosing) => Reading {
+                deadline: ch.deadline,
+                ..no_closing
+            },
+            Ok(Status::CustomerClosing) => Reading {
+                deadline: ch.deadline,
+                kept: ch.kept,
+                lock,
+                ..no_closing
+            },
+            _ => no_closing,
+        }
     }
 }
 
-// A refused reading: zeros.
+// A refused reading: zeros. `Reading` is C's (finaruvom_read), so the refusal stands in it as a number.
 pub fn unread(refusal: u32) -> Reading
     ensures { result ≡ no_reading refusal }
 {

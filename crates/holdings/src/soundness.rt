@@ -3,20 +3,25 @@ ghost use Rattle.std.specs.Prelude.{◌≡◌};
 ghost use Rattle.machine.specs.Book.{ranged, sound_channel};
 
 use crate::sums::{part_fits, total_fits};
-use machine::{Channel, LONGEST, SHORTEST};
+use machine::{Channel, LONGEST, SHORTEST, Status};
 
 // A delay lies between the shortest and the longest.
 pub fn delay_fits(delay: u64) -> bool
     ensures { result ≡ ranged delay }
 {
-    (SHORTEST <= delay) & (delay <= LONGEST)
+    (SHORTEST <= delay) && (delay <= LONGEST)
 }
 
+#[tactic(auto, unfolding(machine::specs::Book::sound_channel))]
 pub fn sound_channel(ch: Channel) -> bool
     ensures { result ≡ sound_channel ch }
 {
-    let fits = total_fits(ch.customer.deposit, ch.merchant.deposit);
-    let kept = part_fits(ch.kept, ch.customer.deposit, ch.merchant.deposit);
-    let delay = delay_fits(ch.delay as u64);
-    (ch.status <= 6) & ((ch.status == 0) | (fits & delay & ((ch.status != 5) | kept)))
+    let (customer, merchant) = (ch.customer.deposit, ch.merchant.deposit);
+    let fits = total_fits(customer, merchant) && delay_fits(u64::from(ch.delay));
+    match Status::try_from(ch.status) {
+        Ok(Status::Unused) => true,
+        Ok(Status::CustomerClosing) => fits && part_fits(ch.kept, customer, merchant),
+        Ok(_) => fits,
+        Err(_) => false,
+    }
 }

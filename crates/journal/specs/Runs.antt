@@ -1,10 +1,11 @@
 -- Document 01, "Journal and due list": what a run leaves.
-use Rattle.std.specs.Prelude.{ℕ, suc, ◌+◌, Bool, true, false, cond, List, [], ◌∷◌, ◌++◌, eqb, ltb, length, take, drop}
+use Rattle.std.specs.Prelude.{ℕ, suc, ◌+◌, Bool, true, false, cond, List, [], ◌∷◌, ◌++◌, eqb, ltb, length, take, drop, Result, Ok, Err}
 use Rattle.machine.specs.Format.{opcode, size}
 use Rattle.machine.specs.Real.{real_step}
 use Rattle.machine.specs.declared.state.Book.{Book}
 use Rattle.journal.specs.declared.lines.Line.{Line}
-use Rattle.journal.specs.declared.following.Ahead.{Ahead}
+use Rattle.journal.specs.declared.following.Cause.{Cause}
+use Rattle.journal.specs.declared.following.Cause.TheVariants.{NoBytes, Opcode, Length, NoLine}
 use Rattle.journal.specs.declared.runs.Ran.{Ran}
 
 -- ---- what comes next
@@ -30,9 +31,26 @@ next_by left room whole =
 abbrev pub next_of : List ℕ → ℕ → Next
 next_of cs room = next_by (length cs) room (size (opcode cs))
 
--- The same from place at on.
+-- The same from place at on: whether a command goes, the cause to stop, and where the command ends.
+pub record Ahead : Type 0 where
+  pub goes : Bool
+  pub cause : ℕ
+  pub end : ℕ
+
 abbrev pub ahead_of : ℕ → Next → Ahead
 ahead_of at x = record { goes = x.goes; cause = x.cause; end = at + x.size }
+
+-- The number of a cause.
+abbrev pub number_of : Cause → ℕ
+number_of NoBytes = 0
+number_of Opcode = 1
+number_of Length = 2
+number_of NoLine = 13
+
+-- What an answer at place at says: where the command ends, or the cause to stop.
+abbrev pub ahead_in : ℕ → Result ℕ Cause → Ahead
+ahead_in at (Ok end) = record { goes = true; cause = 0; end = end }
+ahead_in at (Err c) = record { goes = false; cause = number_of c; end = at }
 
 -- ---- a run
 

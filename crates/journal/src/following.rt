@@ -1,54 +1,40 @@
 // What comes next in a journal.
 ghost use Rattle.std.specs.Prelude.{◌≡◌, ◌-◌, drop};
-ghost use Rattle.journal.specs.Runs.{next_of, ahead_of};
+ghost use Rattle.journal.specs.Runs.{next_of, ahead_of, ahead_in, number_of};
 
 use arbiter::size_of;
 
-// A command that ends at `end`, where `goes`, or else the cause to stop.
-#[derive(Clone, Copy)]
-pub struct Ahead {
-    pub goes: bool,
-    pub cause: u64,
-    pub end: usize,
+// Why a run stops: no bytes left, first byte unknown, fewer bytes than the command needs, no line left.
+#[derive(Clone, Copy, PartialEq, Eq)]
+pub enum Cause {
+    NoBytes = 0,
+    Opcode = 1,
+    Length = 2,
+    NoLine = 13,
 }
 
-// The run stops at the first of these: no bytes left (0), no line left (13), first byte unknown (1), fewer bytes than the command needs (2).
-pub fn next(commands: &[u8], at: usize, n: usize, room: usize) -> Ahead
-    ensures { result ≡ ahead_of at (next_of (drop at commands.now) (room - n)) }
+impl From<Cause> for u64 {
+    ghost from_gives = { λ cause number. number ≡ number_of cause };
+
+    fn from(cause: Cause) -> u64 {
+        cause as u64
+    }
+}
+
+// Where the command at a place ends, with n of so many lines written. The first cause decides: no bytes left, no line left, first byte unknown, fewer bytes than it needs.
+#[tactic(auto, using(crate::proofs::Running::by_numbers), unfolding(crate::specs::Runs::next_by))]
+pub fn next(commands: &[u8], at: usize, n: usize, room: usize) -> Result<usize, Cause>
+    ensures { ahead_in at result ≡ ahead_of at (next_of (drop at commands.now) (room - n)) }
 {
     if commands.len() <= at {
-        return Ahead {
-            goes: false,
-            cause: 0,
-            end: at,
-        };
+        return Err(Cause::NoBytes);
     }
     if room <= n {
-        return Ahead {
-            goes: false,
-            cause: 13,
-            end: at,
-        };
+        return Err(Cause::NoLine);
     }
-    let left = commands.len() - at;
-    let size = size_of(commands[at]);
-    if size == 0 {
-        return Ahead {
-            goes: false,
-            cause: 1,
-            end: at,
-        };
-    }
-    if left < size {
-        return Ahead {
-            goes: false,
-            cause: 2,
-            end: at,
-        };
-    }
-    Ahead {
-        goes: true,
-        cause: 0,
-        end: at + size,
+    match size_of(commands[at]) {
+        0 => Err(Cause::Opcode),
+        size if commands.len() - at < size => Err(Cause::Length),
+        size => Ok(at + size),
     }
 }

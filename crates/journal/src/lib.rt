@@ -4,8 +4,7 @@
 mod following;
 mod lines;
 mod runs;
-mod turns;
 
-pub use following::{Ahead, next};
+pub use following::{Cause, next};
 pub use lines::Line;
 pub use runs::{Ran, Whole, run, run_of};

@@ -3,11 +3,11 @@ ghost use Rattle.std.specs.Prelude.{◌≡◌};
 ghost use Rattle.journal.specs.Runs.{run_of, ran_of};
 
 use crate::following::next;
-use crate::lines::{Line, put_line};
-use crate::turns::turn;
+use crate::lines::Line;
+use arbiter::apply;
 use machine::Book;
 
-// What a run answers: the lines that it wrote, the bytes that it used, and why it stopped.
+// What a run answers: the lines that it wrote, the bytes that it used, and the number of the cause why it stopped. C reads it from `finaruvom_run`.
 #[repr(C)]
 #[derive(Clone, Copy)]
 pub struct Ran {
@@ -22,22 +22,24 @@ pub fn run(book: &mut Book, commands: &[u8], lines: &mut [Line]) -> Ran
         × (book.new ≡ (run_of book.old commands.now lines.old).book)
         × (lines.new ≡ (run_of book.old commands.now lines.old).lines) }
 {
-    let mut at: usize = 0;
-    let mut n: usize = 0;
+    // Both are answered, and a `for` over the lines would have to find the cause once more after the last one.
+    let mut at = 0;
+    let mut n = 0;
     let cause = loop {
-        let ahead = next(commands, at, n, lines.len());
-        if !ahead.goes {
-            break ahead.cause;
+        match next(commands, at, n, lines.len()) {
+            Ok(end) => {
+                let answer = apply(book, &commands[at..end]);
+                lines[n] = Line { answer };
+                at = end;
+                n += 1;
+            }
+            Err(cause) => break cause,
         }
-        let line = turn(book, commands, at, ahead.end);
-        put_line(lines, n, line);
-        at = ahead.end;
-        n = n + 1;
     };
     Ran {
         lines: n,
         used: at,
-        cause: cause,
+        cause: cause.into(),
     }
 }
 
@@ -61,6 +63,6 @@ pub fn run_of(book: Book, commands: &[u8], lines: [Line; 64]) -> Whole
     Whole {
         book: lent,
         lines: written,
-        ran: ran,
+        ran,
     }
 }

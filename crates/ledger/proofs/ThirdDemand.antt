@@ -25,7 +25,7 @@ use Rattle.machine.specs.declared.state.Channel.{Channel}
 use Rattle.machine.specs.declared.state.Setup.{Setup}
 use Rattle.machine.specs.declared.state.Book.{Book}
 use Rattle.machine.specs.declared.answers.Answer.{Answer}
-use Rattle.machine.specs.declared.answers.Judged.{Judged}
+use Rattle.machine.specs.Answered.{Judged}
 use Rattle.machine.specs.declared.answers.Stepped.{Stepped}
 use Rattle.wire.proofs.Laws.{and_both, and_make, same_refl, clash}
 use Rattle.calendar.proofs.Listing.{kept_sound}

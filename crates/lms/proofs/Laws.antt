@@ -5,7 +5,7 @@ use native.Mathlib.Omega.{arith}
 use mathlib.Core.Path.{◌≡◌, refl, ap, sym, subst, ◌∙◌}
 use mathlib.Core.List.{List, [], ◌∷◌, ◌++◌, append_assoc, append-nil}
 use lib.ListN.{length, take, drop, get_or, set, replicate, length-append, length-set}
-use lib.Seq.{paste, set_at, take_at, take_all, take-suc-set, take-length, drop-append-add, length-take-le, take-suc}
+use lib.Seq.{paste, set_at, take_at, drop_at, take_all, take-suc-set, take-length}
 use Rattle.wire.specs.Numbers.{bytes}
 use Rattle.wire.proofs.Laws.{both}
 use Rattle.sha256.specs.declared.state.Sha256.{Sha256}
@@ -51,25 +51,14 @@ stepped p x y j l h e =
     let b : j ≡ j / 256 ^ 0 % 256 = omega arith in
     e ∙ ap (λ (t : List ℕ). sha256 (t ++ x)) (last_written p j l ∙ ap (λ (k : ℕ). take 22 p ++ k ∷ []) b)
 
--- The digits of a hash, as they are written: the bytes of the hash into zeros one by one, and then the checksum.
-pub digit_written : (q d : List ℕ) (i : ℕ) → length q ≡ 32 → i < 32 → d ≡ take i q ++ replicate (34 - i) 0
-    → set d i (get_or q i 0) ≡ take (i + 1) q ++ replicate (34 - (i + 1)) 0
-digit_written q d i l h e =
-    let n : 34 - i ≡ suc (34 - (i + 1)) = omega arith in
-    let v : ℕ = get_or q i 0 in
-    let z : List ℕ = replicate (34 - (i + 1)) 0 in
-    ap (λ (x : List ℕ). set x i v) (e ∙ ap (λ (k : ℕ). take i q ++ replicate k 0) n)
-    ∙ set_at (take i q) 0 z v i (length-take-le i q (omega arith))
-    ∙ sym (append_assoc (take i q) (v ∷ []) z)
-    ∙ ap (λ (x : List ℕ). x ++ z) (sym (ap (λ (k : ℕ). take k q) (add-one i) ∙ take-suc q i 0 (omega arith)))
-
-pub digits_written : (q d : List ℕ) (i s : ℕ) → length q ≡ 32 → i ≡ 32 → d ≡ take i q ++ replicate (34 - i) 0 → s ≡ deficit q i → s ≤ 255 * i
+-- The digits of a hash, as they are written: the bytes of the hash into zeros, and then the checksum.
+pub digits_written : (q d : List ℕ) (s : ℕ) → length q ≡ 32 → d ≡ paste (replicate 34 0) 0 q (length q) → s ≡ checksum q → s ≤ 255 * 32
     → set (set d 32 (s / 256)) 33 (s % 256) ≡ digits q
 unfolding digits bytes
-digits_written q d i s l n e f b =
+digits_written q d s l e c b =
+    let z : List ℕ = replicate 34 0 in
     let e₃₂ : d ≡ q ++ 0 ∷ 0 ∷ [] =
-    e ∙ ap (λ (k : ℕ). take k q ++ replicate (34 - k) 0) n ∙ ap (λ (x : List ℕ). x ++ 0 ∷ 0 ∷ []) (take_all 32 q (omega arith)) in
-    let c : s ≡ checksum q = f ∙ ap (deficit q) n in
+    e ∙ ap (λ (x : List ℕ). x ++ drop (0 + length q) z) (take-length q) ∙ ap (λ (k : ℕ). q ++ drop (0 + k) z) l in
     let h : s / 256 ≡ s / 256 ^ 1 % 256 = omega arith in
     let o : s % 256 ≡ s / 256 ^ 0 % 256 = omega arith in
     ap (λ (x : List ℕ). set (set x 32 (s / 256)) 33 (s % 256)) e₃₂
@@ -79,18 +68,14 @@ digits_written q d i s l n e f b =
     ∙ ap (λ (x : List ℕ). q ++ x) (both h (both o refl))
     ∙ ap (λ (x : ℕ). q ++ x / 256 ^ 1 % 256 ∷ x / 256 ^ 0 % 256 ∷ []) c
 
--- What the chains' hashes begin with, as it is written.
-pub started : (I b : List ℕ) → length I ≡ 16 → length b ≡ 4 → paste (paste (replicate 23 0) 0 I (length I)) 16 b (length b) ≡ I ++ b ++ 0 ∷ 0 ∷ 0 ∷ []
-started I b lI lb =
+-- What the chains' hashes begin with, as it is written: the number over zeros, behind the identifier.
+pub started : (I b : List ℕ) → length I ≡ 16
+    → take 16 (I ++ replicate 7 0) ++ (b ++ drop 4 (drop 16 (I ++ replicate 7 0))) ≡ I ++ b ++ 0 ∷ 0 ∷ 0 ∷ []
+started I b l =
     let z : List ℕ = replicate 7 0 in
-    let e : paste (replicate 23 0) 0 I (length I) ≡ I ++ z =
-    ap (λ (l : List ℕ). l ++ drop (0 + length I) (replicate 23 0)) (take-length I) ∙ ap (λ (k : ℕ). I ++ drop (0 + k) (replicate 23 0)) lI in
-    let d : drop (16 + length b) (I ++ z) ≡ 0 ∷ 0 ∷ 0 ∷ [] =
-    ap (λ (k : ℕ). drop (k + length b) (I ++ z)) (sym lI) ∙ drop-append-add I z (length b) ∙ ap (λ (k : ℕ). drop k z) lb in
-    ap (λ (l : List ℕ). paste l 16 b (length b)) e
-    ∙ ap (λ (l : List ℕ). l ++ take (length b) b ++ drop (16 + length b) (I ++ z)) (take_at I z 16 lI)
-    ∙ ap (λ (l : List ℕ). I ++ l ++ drop (16 + length b) (I ++ z)) (take-length b)
-    ∙ ap (λ (l : List ℕ). I ++ b ++ l) d
+    ap (λ (x : List ℕ). x ++ (b ++ drop 4 (drop 16 (I ++ z)))) (take_at I z 16 l)
+    ∙ ap (λ (x : List ℕ). I ++ (b ++ drop 4 x)) (drop_at I z 16 l)
+    ∙ sym (append_assoc I b (0 ∷ 0 ∷ 0 ∷ []))
 
 -- The identifier is their first 16 bytes.
 pub start_identifier : (I s : List ℕ) (q : ℕ) → length I ≡ 16 → s ≡ chain_start I q → I ≡ take 16 s

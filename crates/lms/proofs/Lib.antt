@@ -2,5 +2,6 @@
 pub mod Laws
 pub mod Climbing
 pub mod Forms
+pub mod Made
 pub mod StepLaw
 pub mod LeafLaw

@@ -4,6 +4,8 @@
 ghost use Rattle.std.specs.Prelude.{◌≡◌, cond, leb, length};
 ghost use Rattle.lms.specs.OneTime.{leaf_key, step_count};
 
+use lms::Place;
+
 // Writes the leaf key and answers the chain steps; a signature below 1,128 bytes leaves key as it is and answers 0.
 #[unsafe(no_mangle)]
 pub extern "C" fn bench_leaf_key(
@@ -19,8 +21,12 @@ pub extern "C" fn bench_leaf_key(
     if signature.len() < 1128 {
         return 0;
     }
-    let walked = lms::leaf_key(*id, leaf, *hash, signature);
-    let k = walked.key;
-    *key = k;
+    let place = Place {
+        id: *id,
+        number: leaf,
+    };
+    let walked = lms::leaf_key(place, *hash, signature);
+    let made = walked.key;
+    *key = made;
     walked.steps
 }

@@ -7,10 +7,9 @@ use native.Mathlib.Omega.{arith}
 use lib.ListN.{get_or}
 use borrow.Author.Tests.{ltb-true, ltb-false, leb-true, leb-false, eqb-true, eq-eqb}
 use Rattle.machine.specs.Book.{cents, held, sound, closing, no_channel}
-use Rattle.machine.specs.Due.{Due, number, none, precedes, sooner, soonest, due, FirstDue, DueMeans}
+use Rattle.machine.specs.Due.{Soonest, Due, number, none, precedes, sooner, soonest, due, FirstDue, DueMeans}
 use Rattle.machine.specs.declared.state.Book.{Book}
 use Rattle.machine.specs.declared.state.Channel.{Channel}
-use Rattle.machine.specs.declared.answers.Soonest.{Soonest}
 use Rattle.wire.proofs.Laws.{and_both, clash, or_neither}
 use Rattle.machine.proofs.Laws.{and_other, or_either}
 

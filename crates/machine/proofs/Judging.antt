@@ -6,7 +6,7 @@ use Prim.Native.Nat.{ℕ}
 use lib.Dec.{eqb}
 use borrow.Author.Tests.{eq-eqb, ne_eqb, eqb-true, eqb-false, not-true}
 use Rattle.machine.specs.Checks.{Check, test, signed, passed, ask, judge}
-use Rattle.machine.specs.declared.answers.Judged.{Judged}
+use Rattle.machine.specs.Answered.{Judged}
 use Rattle.wire.proofs.Laws.{and_both}
 
 -- All the checks of a list say yes.

@@ -17,7 +17,7 @@ use Rattle.machine.specs.Format.{opcode, time, place}
 use Rattle.wire.specs.Parts.{all}
 use Rattle.machine.specs.Book.{limit, ranged, layout, mark_of, the_mark, sound_channel, sound_setup, sound, total, read_channel, reading, channel}
 use Rattle.machine.specs.Checks.{Check, test, Verdict, clean, ask, judge}
-use Rattle.machine.specs.Opening.{Opening, dates_of, fresh, opening}
+use Rattle.machine.specs.Opening.{Opened, Opening, dates_of, fresh, opening}
 use Rattle.machine.specs.Due.{due}
 use Rattle.machine.specs.Fee.{charged}
 use Rattle.machine.specs.Rules.{delayed, keyed, answerable_at, delay_fits, deposits_fit, establish, fund_customer, fund_merchant, reclaim, mutual_close, customer_close, merchant_close, dispute, settle}
@@ -28,8 +28,7 @@ use Rattle.machine.specs.declared.state.Channel.{Channel}
 use Rattle.machine.specs.declared.state.Context.{Context}
 use Rattle.machine.specs.declared.state.Book.{Book}
 use Rattle.machine.specs.declared.answers.Answer.{Answer}
-use Rattle.machine.specs.declared.answers.Judged.{Judged}
-use Rattle.machine.specs.declared.answers.Opened.{Opened}
+use Rattle.machine.specs.Answered.{Judged}
 use Rattle.machine.specs.declared.answers.Stepped.{Stepped}
 use Rattle.wire.proofs.Laws.{same_refl}
 use Rattle.wire.proofs.Tested.{all_not}

@@ -1,6 +1,6 @@
 -- Document 01, "Checks, in this order": the first no decides, and the chain steps of the signature checks made are counted.
 use Rattle.std.specs.Prelude.{Bool, cond, List, [], ◌∷◌, ℕ, ◌+◌, eqb}
-use Rattle.machine.specs.declared.answers.Judged.{Judged}
+use Rattle.machine.specs.Answered.{Judged}
 
 -- What a signature check says: is the signature good, how many chain steps were made, and the leaf of a good one.
 pub record Verdict : Type 0 where

@@ -1,11 +1,18 @@
 -- Document 01, "Journal and due list": of the channels in status 4 or 5 the one with the smallest deadline. Document 02, No. 9: of those with
 -- equal deadlines the one with the larger held sum, and only then the lower number.
-use Rattle.std.specs.Prelude.{◌≡◌, Bool, true, false, cond, not, ◌&&◌, ◌||◌, List, [], ◌∷◌, ℕ, suc, ◌≤◌, ◌<◌, eqb, ltb, leb}
+use Rattle.std.specs.Prelude.{◌≡◌, Bool, true, false, cond, not, ◌&&◌, ◌||◌, List, [], ◌∷◌, ℕ, suc, ◌≤◌, ◌<◌, eqb, ltb, leb, Option, Some, None}
 use Rattle.machine.specs.Book.{cents, seconds, held, sound, closing, channel}
+use Rattle.machine.specs.declared.units.Cents.{Cents}
+use Rattle.machine.specs.declared.units.Seconds.{Seconds}
 use Rattle.machine.specs.declared.state.Channel.{Channel}
 use Rattle.machine.specs.declared.state.Book.{Book}
-use Rattle.machine.specs.declared.answers.Soonest.{Soonest}
-use Rattle.machine.specs.declared.answers.Found.{Found}
+
+-- A closing channel, its deadline and what it holds, if there is some.
+pub record Soonest : Type 0 where
+  pub some : Bool
+  pub number : ℕ
+  pub deadline : Seconds
+  pub held : Cents
 
 -- A channel comes before another with a later deadline, and before one with an equal deadline that holds no more.
 abbrev pub precedes : Channel → Soonest → Bool
@@ -25,10 +32,10 @@ pub data Due : Type 0 where
   number : ℕ → Due
   none : Due
 
--- Its value for each case of the enum.
-abbrev pub value_of : Found → Due
-value_of (Found.At n) = number n
-value_of Found.Nothing = none
+-- What the code's answer says.
+abbrev pub value_of : Option ℕ → Due
+value_of (Some n) = number n
+value_of None = none
 
 -- None exactly when the book is unsound or has no such channel.
 unfoldable pub due : Book → Due

@@ -15,7 +15,7 @@ use Rattle.machine.specs.declared.state.Channel.{Channel}
 use Rattle.machine.specs.declared.state.Context.{Context}
 use Rattle.machine.specs.declared.state.Settings.{Settings}
 use Rattle.machine.specs.declared.state.Book.{Book}
-use Rattle.machine.specs.declared.answers.Ruled.{Ruled}
+use Rattle.machine.specs.Answered.{Ruled}
 
 abbrev pub settings : ℕ → ℕ → Bool → Settings
 settings default fee dated = record { delay = default; fee = fee; dated = dated }

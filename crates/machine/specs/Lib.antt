@@ -2,11 +2,13 @@
 pub mod Format
 pub mod Book
 pub mod Due
+pub mod Answered
 pub mod Checks
 pub mod Opening
 pub mod Fee
 pub mod Rules
 pub mod Machine
+pub mod Outcomes
 pub mod Real
 pub mod WrongTurns
 pub mod Figures

@@ -12,8 +12,7 @@ use Rattle.machine.specs.declared.state.Channel.{Channel}
 use Rattle.machine.specs.declared.state.Context.{Context}
 use Rattle.machine.specs.declared.state.Book.{Book}
 use Rattle.machine.specs.declared.answers.Answer.{Answer}
-use Rattle.machine.specs.declared.answers.Judged.{Judged}
-use Rattle.machine.specs.declared.answers.Ruled.{Ruled}
+use Rattle.machine.specs.Answered.{Judged, Ruled}
 use Rattle.machine.specs.declared.answers.Stepped.{Stepped}
 
 -- A refused command pays 0 and 0, and counts the steps of the signature checks made. No fee is taken yet.

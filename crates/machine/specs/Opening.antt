@@ -10,7 +10,11 @@ use Rattle.machine.specs.declared.state.Channel.{Channel}
 use Rattle.machine.specs.declared.state.Settings.{Settings}
 use Rattle.machine.specs.declared.state.Setup.{Setup}
 use Rattle.machine.specs.declared.state.Book.{Book}
-use Rattle.machine.specs.declared.answers.Opened.{Opened}
+
+-- What an opening makes of the lent book, and the refusal, or 0.
+pub record Opened : Type 0 where
+  pub book : Book
+  pub refusal : ℕ
 
 -- ---- what an opening is given
 

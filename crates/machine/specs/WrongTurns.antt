@@ -8,7 +8,7 @@ use Rattle.lms.specs.Layout.{typed_key}
 use Rattle.machine.specs.Format.{opcode}
 use Rattle.machine.specs.Book.{cents, seconds, limit, layout, mark_of, total, leaves, sound, no_reading, read_channel, reading}
 use Rattle.machine.specs.Checks.{Verdict, Check, number_of}
-use Rattle.machine.specs.Opening.{Opening, answerable_by, fresh, opening}
+use Rattle.machine.specs.Opening.{Opened, Opening, answerable_by, fresh, opening}
 use Rattle.machine.specs.Due.{none, due}
 use Rattle.machine.specs.Fee.{fee_of}
 use Rattle.machine.specs.Rules.{Payment, Plan, keyed, delay_fits, answerable_at, establish, fund_customer, fund_merchant, reclaim, mutual_close, customer_close, merchant_close, dispute, settle}
@@ -19,7 +19,6 @@ use Rattle.machine.specs.declared.state.Setup.{Setup}
 use Rattle.machine.specs.declared.state.Context.{Context}
 use Rattle.machine.specs.declared.state.Book.{Book}
 use Rattle.machine.specs.declared.answers.Answer.{Answer}
-use Rattle.machine.specs.declared.answers.Opened.{Opened}
 
 abbrev pub refusal : ℕ → ℕ → Answer
 refusal r steps = record { customer = cents 0; merchant = cents 0; steps = steps; refusal = r; fee = cents 0 }

@@ -1,8 +1,13 @@
 // What the arbiter's calls answer.
+ghost use Rattle.std.specs.Prelude.{◌≡◌};
+ghost use Rattle.machine.specs.Outcomes.{refusal_number, refused_answer, paid_answer, unpaid};
+
+use crate::numbers::Refusal;
 use crate::state::{Book, Channel};
 use crate::units::{Cents, Seconds};
 
-// What a command answers: the refusal, or 0; what it paid to each side; the chain steps; the fee that the desk kept of the merchant's payment.
+// What a command answers: the refusal's number, or 0; what it paid to each side; the chain steps; the fee that the desk kept of the merchant's payment.
+// C takes it from finaruvom_apply as it is here, so a refusal beside the rest and not a Result.
 #[repr(C)]
 #[derive(Clone, Copy)]
 pub struct Answer {
@@ -13,25 +18,49 @@ pub struct Answer {
     pub fee: Cents,
 }
 
-// What the checks made so far come to.
-#[derive(Clone, Copy)]
-pub struct Judged {
-    pub refusal: u32,
-    pub steps: u32,
+impl Answer {
+    // Of a refused command: it pays nothing.
+    pub fn refused(refusal: Refusal, steps: u32) -> Answer
+        ensures { result ≡ refused_answer (refusal_number refusal) steps }
+    {
+        Answer {
+            refusal: u32::from(refusal),
+            ..Answer::paid(Cents(0), Cents(0), steps)
+        }
+    }
+
+    // Of an accepted one, before the fee.
+    pub fn paid(customer: Cents, merchant: Cents, steps: u32) -> Answer
+        ensures { result ≡ paid_answer customer merchant steps }
+    {
+        Answer {
+            customer,
+            merchant,
+            steps,
+            refusal: 0,
+            fee: Cents(0),
+        }
+    }
 }
 
-// The same after a signature check, and the leaf that it handed back: 0 where it was not made.
+// What an accepted command makes of its channel, and what it pays to each side.
 #[derive(Clone, Copy)]
-pub struct Sealed {
-    pub judged: Judged,
-    pub leaf: u32,
-}
-
-// What a command makes of its channel, and its answer.
-#[derive(Clone, Copy)]
-pub struct Ruled {
+pub struct Accepted {
     pub channel: Channel,
-    pub answer: Answer,
+    pub customer: Cents,
+    pub merchant: Cents,
+}
+
+impl Accepted {
+    pub fn unpaid(channel: Channel) -> Accepted
+        ensures { result ≡ unpaid channel }
+    {
+        Accepted {
+            channel,
+            customer: Cents(0),
+            merchant: Cents(0),
+        }
+    }
 }
 
 // What a command makes of the book, and its answer.
@@ -41,14 +70,7 @@ pub struct Stepped {
     pub answer: Answer,
 }
 
-// What an opening makes of the lent book, and the refusal, or 0.
-#[derive(Clone, Copy)]
-pub struct Opened {
-    pub book: Book,
-    pub refusal: u32,
-}
-
-// What a reading of one channel gives.
+// What a reading of one channel gives. C takes it from finaruvom_read as it is here, so numbers for refusal and status.
 #[repr(C)]
 #[derive(Clone, Copy)]
 pub struct Reading {
@@ -59,20 +81,4 @@ pub struct Reading {
     pub refusal: u32,
     pub status: u32,
     pub lock: [u8; 32],
-}
-
-// A closing channel, its deadline and what it holds, if there is some.
-#[derive(Clone, Copy)]
-pub struct Soonest {
-    pub some: bool,
-    pub number: u8,
-    pub deadline: Seconds,
-    pub held: Cents,
-}
-
-// The channel that is due next.
-#[derive(Clone, Copy)]
-pub enum Found {
-    At(u8),
-    Nothing,
 }

@@ -3,10 +3,12 @@
 
 mod answers;
 mod limits;
+mod numbers;
 mod state;
 mod units;
 
-pub use answers::{Answer, Found, Judged, Opened, Reading, Ruled, Sealed, Soonest, Stepped};
+pub use answers::{Accepted, Answer, Reading, Stepped};
 pub use limits::{HIGHEST, LAYOUT, LIMIT, LONGEST, MARK, SHORTEST};
+pub use numbers::{Opcode, Refusal, Status};
 pub use state::{Book, Channel, Context, Leaves, Party, Settings, Setup};
 pub use units::{Cents, Seconds};

@@ -1,4 +1,9 @@
-// A book and its channels. Any values may stand in a lent book.
+// A book and its channels. C lends it as it is here, and any values may stand in it: so numbers for status and flag, and a count beside the days.
+ghost use Rattle.std.specs.Prelude.{◌≡◌, eqb};
+ghost use Rattle.machine.specs.Rules.{become};
+ghost use Rattle.machine.specs.Outcomes.{status_number};
+
+use crate::numbers::Status;
 use crate::units::{Cents, Seconds};
 
 // One side of a channel: its key, and the deposit that it agreed to.
@@ -29,6 +34,24 @@ pub struct Channel {
     pub status: u32,
     pub lock: [u8; 32],
     pub leaves: Leaves,
+}
+
+impl Channel {
+    pub fn is(self, status: Status) -> bool
+        ensures { result ≡ eqb self.status (status_number status) }
+    {
+        self.status == u32::from(status)
+    }
+
+    // The same channel, elsewhere.
+    pub fn moved_to(self, status: Status) -> Channel
+        ensures { result ≡ become (status_number status) self }
+    {
+        Channel {
+            status: u32::from(status),
+            ..self
+        }
+    }
 }
 
 // What an opening is given: the delay that a 0 in a 02 stands for, the fee in ten-thousandths, and whether there is a list of shut dates.

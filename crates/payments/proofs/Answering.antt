@@ -1,10 +1,9 @@
 -- What writing and reading answer, by the first check that says no.
-use Prim.Native.Nat.{ℕ, ◌*◌, ◌/◌, ◌%◌, ◌≤◌}
-use mathlib.Core.Path.{◌≡◌, refl}
-use mathlib.Core.Bool.{Bool, true, false, true≢false, not, ◌&&◌, ◌||◌}
+use Prim.Native.Nat.{ℕ, ◌*◌, ◌/◌, ◌%◌}
+use mathlib.Core.Path.{◌≡◌}
+use mathlib.Core.Bool.{true, false, ◌&&◌}
 use mathlib.Core.List.{List, map}
-use borrow.Author.Tests.{ltb-true, ltb-false, le-leb, lt-leb}
-use lib.Dec.{eqb, leb, ltb}
+use lib.Dec.{eqb, leb}
 use lib.ListN.{length}
 use Rattle.wire.specs.Parts.{pasted, all}
 use Rattle.machine.specs.Checks.{ask}
@@ -41,19 +40,3 @@ module _ (x : List ℕ) (list : List (List ℕ)) where
       → read_of x list ≡ record { answer = accepted (length (map payment_in (entries_of x))); list = pasted list 0 (map listed (map payment_in (entries_of x))) }
   unfolding filled refusal_of ask
   read_0 e h = rw (e, h)
-
--- The test that the code makes of a length and of the room for what is read.
-module _ (k n room : ℕ) where
-  pub no_room : (not (eqb k 0) || ltb room n) ≡ true → (eqb k 0 && leb n room) ≡ false
-  no_room = go (eqb k 0)
-    where
-      go : (x : Bool) → (not x || ltb room n) ≡ true → (x && leb n room) ≡ false
-      go true h = lt-leb n room (ltb-true room n h)
-      go false h = refl
-
-  pub has_room : (not (eqb k 0) || ltb room n) ≡ false → ((eqb k 0 && leb n room) ≡ true) × (n ≤ room)
-  has_room = go (eqb k 0)
-    where
-      go : (x : Bool) → (not x || ltb room n) ≡ false → ((x && leb n room) ≡ true) × (n ≤ room)
-      go true h = let l = ltb-false room n h in (le-leb n room l, l)
-      go false h = absurd (true≢false h)

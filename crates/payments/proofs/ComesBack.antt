@@ -16,8 +16,8 @@ use Rattle.payments.specs.Packed.{entry, written, parted, entries_of, payment_in
 use Rattle.payments.specs.Answers.{accepted, writable, Written, Filled, write_of, read_of}
 use Rattle.payments.specs.BankLines.{wrote, got, BankLines}
 use Rattle.payments.proofs.Answering.{write_17, write_18, write_0, read_18, read_19, read_0}
-use Rattle.payments.proofs.Listing.{read_length}
-use Rattle.payments.proofs.RoundTrips.{written_length, parted_written, all_back, all_written, listed_back}
+use Rattle.payments.proofs.Listing.{read_length, written_length}
+use Rattle.payments.proofs.RoundTrips.{parted_written, all_back, all_written, listed_back}
 
 -- ---- a list that was written
 

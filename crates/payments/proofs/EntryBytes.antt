@@ -1,49 +1,30 @@
 -- Entries byte by byte: packed decimal, and what the eleven bytes of an entry say.
-use Prim.Native.Nat.{ℕ, zero, suc, ◌+◌, ◌*◌, ◌/◌, ◌%◌, ◌≤◌}
-use native.Mathlib.Nat.{div-one, div-div-eq-div-mul}
+use Prim.Native.Nat.{ℕ, zero, suc, ◌+◌, ◌*◌, ◌/◌, ◌%◌, ◌^◌, ◌≤◌, ◌<◌}
+use native.Mathlib.Nat.{mul_left_comm, pow-succ', pow-le-pow_right}
+use native.Mathlib.Numerals.{add-one}
 use native.Mathlib.Omega.{arith}
-use mathlib.Core.Path.{◌≡◌, refl, sym, ap, ◌∙◌}
+use mathlib.Core.Path.{◌≡◌, refl, sym, ap, subst, ◌∙◌}
 use mathlib.Core.Bool.{Bool, true, ◌&&◌, and-true, and_assoc}
-use mathlib.Core.List.{List, [], ◌∷◌, ◌++◌}
+use mathlib.Core.List.{List, [], ◌∷◌, ◌++◌, append_assoc}
 use lib.Dec.{eqb}
-use lib.ListN.{length, get_or, drop, drop_of_length-le}
-use lib.Seq.{drop-cons, paste}
+use lib.ListN.{length, get_or, take, drop, drop_of_length-le, length-append}
+use lib.Seq.{drop-cons, paste, take-suc, take_all}
+use Rattle.std.specs.Prelude.{replicate}
+use Rattle.std.specs.List.{fold}
 use Rattle.wire.specs.Numbers.{bytes}
-use Rattle.wire.specs.Parts.{pasted, all}
+use Rattle.wire.specs.Parts.{all}
 use Rattle.wire.proofs.Laws.{both}
-use Rattle.wire.proofs.Pasting.{pasted_more}
 use Rattle.payments.specs.declared.lists.Payment.{Payment}
 use Rattle.payments.specs.Packed.{digits, spelled, joined, halves, packed, entry, amount_in, is_digit, is_packed}
 
 -- ---- writing
 
--- Two digits of a number, and all of an amount's.
-abbrev pub two_digits : ℕ → ℕ
-two_digits x = 16 * (x / 10 % 10) + x % 10
-
-pair_is : (a m : ℕ) → two_digits (a / m) ≡ 16 * (a / (m * 10) % 10) + a / m % 10
-pair_is a m = ap (λ (x : ℕ). 16 * (x % 10) + a / m % 10) (div-div-eq-div-mul a m 10)
-
-module _ (a b₀ b₁ b₂ b₃ b₄ b₅ b₆ : ℕ) where
-  pub packed_is : b₀ ≡ two_digits (a / 10000000000000) → b₁ ≡ two_digits (a / 100000000000) → b₂ ≡ two_digits (a / 1000000000) → b₃ ≡ two_digits (a / 10000000)
-      → b₄ ≡ two_digits (a / 100000) → b₅ ≡ two_digits (a / 1000) → b₆ ≡ two_digits (a / 10)
-      → b₀ ∷ b₁ ∷ b₂ ∷ b₃ ∷ b₄ ∷ b₅ ∷ b₆ ∷ (16 * (a % 10) + 0xC) ∷ [] ≡ packed a
-  unfolding packed digits joined
-  packed_is e₀ e₁ e₂ e₃ e₄ e₅ e₆ =
-      both (e₀ ∙ pair_is a 10000000000000) (both (e₁ ∙ pair_is a 100000000000) (both (e₂ ∙ pair_is a 1000000000) (both (e₃ ∙ pair_is a 10000000)
-      (both (e₄ ∙ pair_is a 100000) (both (e₅ ∙ pair_is a 1000) (both (e₆ ∙ pair_is a 10) (both (rw div-one) refl)))))))
-
--- An entry: three bytes, and eight after them.
-pub entry_is : (p : Payment) → entry p ≡ (p.party % 256 ∷ p.channel / 256 % 256 ∷ p.channel % 256 ∷ []) ++ packed p.amount.0
-unfolding entry bytes
-entry_is p = both (omega arith) (both (omega arith) (both (omega arith) refl))
-
-pub entry_put : (p : Payment) (d out more : List ℕ) (at : ℕ) → let head = p.party % 256 ∷ p.channel / 256 % 256 ∷ p.channel % 256 ∷ [] in
-    out ≡ paste d at head 3 → more ≡ paste out (at + 3) (packed p.amount.0) (length (packed p.amount.0)) → at + 3 ≤ length d → more ≡ pasted d at (entry p)
-unfolding pasted
-entry_put p d out more at o m h =
-    let head = p.party % 256 ∷ p.channel / 256 % 256 ∷ p.channel % 256 ∷ [] in
-    m ∙ rw (o, entry_is p) (pasted_more d at head (packed p.amount.0) h)
+-- An entry: one byte, two and eight.
+module _ (p : Payment) (n a out more : List ℕ) where
+  pub entry_is : n ≡ p.channel % 65536 / 256 % 256 ∷ p.channel % 65536 % 256 ∷ [] → out ≡ paste (replicate 11 (p.party % 256)) 1 n (length n)
+      → a ≡ packed p.amount.0 → more ≡ paste out 3 a (length a) → more ≡ entry p
+  unfolding entry bytes packed digits joined
+  entry_is e o m w = w ∙ rw (m, o, e) (both (omega arith) (both (omega arith) (both (omega arith) refl)))
 
 -- ---- reading
 
@@ -59,51 +40,76 @@ one_by_one (suc k) i e h = drop-cons e i 0 (omega arith) ∙ ap (λ (l : List �
 eleven : (e : List ℕ) → length e ≡ 11 → e ≡ ones 11 0 e
 eleven e h = one_by_one 11 0 e (omega arith)
 
--- Fifteen digits, by pairs.
-sum_of_pairs : (a₀ b₀ a₁ b₁ a₂ b₂ a₃ b₃ a₄ b₄ a₅ b₅ a₆ b₆ a₇ : ℕ)
-    → (a₀ * 10 + b₀) * 10000000000000 + (a₁ * 10 + b₁) * 100000000000 + (a₂ * 10 + b₂) * 1000000000 + (a₃ * 10 + b₃) * 10000000 + (a₄ * 10 + b₄) * 100000 + (a₅ * 10 + b₅) * 1000 + (a₆ * 10 + b₆) * 10 + a₇
-    ≡ spelled (a₀ ∷ b₀ ∷ a₁ ∷ b₁ ∷ a₂ ∷ b₂ ∷ a₃ ∷ b₃ ∷ a₄ ∷ b₄ ∷ a₅ ∷ b₅ ∷ a₆ ∷ b₆ ∷ a₇ ∷ [])
+-- Its bytes of two digits, and the halves of its amount.
+abbrev pub pairs : List ℕ → List ℕ
+pairs e = take 7 (drop 3 e)
+
+fifteen : (e : List ℕ) → length e ≡ 11 → take 15 (halves (drop 3 e)) ≡ halves (pairs e) ++ (get_or e 10 0 / 16 ∷ [])
+unfolding halves
+fifteen e h = subst (λ (l : List ℕ). take 15 (halves (drop 3 l)) ≡ halves (pairs l) ++ (get_or l 10 0 / 16 ∷ [])) (sym (eleven e h)) refl
+
+sixteenth : (e : List ℕ) → length e ≡ 11 → get_or (halves (drop 3 e)) 15 0 ≡ get_or e 10 0 % 16
+unfolding halves
+sixteenth e h = subst (λ (l : List ℕ). get_or (halves (drop 3 l)) 15 0 ≡ get_or l 10 0 % 16) (sym (eleven e h)) refl
+
+pub pairs_length : (e : List ℕ) → length e ≡ 11 → length (pairs e) ≡ 7
+pairs_length e h = subst (λ (l : List ℕ). length (pairs l) ≡ 7) (sym (eleven e h)) refl
+
+-- One byte more.
+halves_more : (bs : List ℕ) (b : ℕ) → halves (bs ++ (b ∷ [])) ≡ halves bs ++ (b / 16 ∷ b % 16 ∷ [])
+unfolding halves
+halves_more [] b = refl
+halves_more (x ∷ bs) b = ap (λ (l : List ℕ). x / 16 ∷ x % 16 ∷ l) (halves_more bs b)
+
+-- One digit more.
+spelled_more : (ds : List ℕ) (d : ℕ) → spelled (ds ++ (d ∷ [])) ≡ spelled ds * 10 + d
 unfolding spelled
-sum_of_pairs a₀ b₀ a₁ b₁ a₂ b₂ a₃ b₃ a₄ b₄ a₅ b₅ a₆ b₆ a₇ = omega arith
+spelled_more [] d = omega arith
+spelled_more (x ∷ ds) d =
+    let n : length (ds ++ (d ∷ [])) ≡ suc (length ds) = length-append ds (d ∷ []) ∙ omega arith in
+    rw (n, spelled_more ds d, pow-succ' 10 (length ds)) (place x (10 ^ length ds) (spelled ds))
+  where
+    place : (x m s : ℕ) → x * (10 * m) + (s * 10 + d) ≡ (x * m + s) * 10 + d
+    place x m s = omega (arith, mul_left_comm x 10 m)
 
--- The values of seven bytes by their halves, and the high half of the eighth.
-abbrev pub number_of : ℕ → ℕ
-number_of b = b / 16 * 10 + b % 16
+spelled_two : (ds : List ℕ) (h k : ℕ) → spelled (ds ++ (h ∷ k ∷ [])) ≡ spelled ds * 100 + (h * 10 + k)
+spelled_two ds h k =
+    ap spelled (sym (append_assoc ds (h ∷ []) (k ∷ []))) ∙ spelled_more (ds ++ (h ∷ [])) k ∙ ap (λ (x : ℕ). x * 10 + k) (spelled_more ds h) ∙ omega arith
 
-module _ (e : List ℕ) (h : length e ≡ 11) where
-  pub amount_is : (n₀ n₁ n₂ n₃ n₄ n₅ n₆ n₇ : ℕ) → n₀ ≡ number_of (get_or e 3 0) → n₁ ≡ number_of (get_or e 4 0) → n₂ ≡ number_of (get_or e 5 0) → n₃ ≡ number_of (get_or e 6 0)
-      → n₄ ≡ number_of (get_or e 7 0) → n₅ ≡ number_of (get_or e 8 0) → n₆ ≡ number_of (get_or e 9 0) → n₇ ≡ get_or e 10 0 / 16
-      → n₀ * 10000000000000 + n₁ * 100000000000 + n₂ * 1000000000 + n₃ * 10000000 + n₄ * 100000 + n₅ * 1000 + n₆ * 10 + n₇ ≡ amount_in e
-  unfolding amount_in halves
-  amount_is n₀ n₁ n₂ n₃ n₄ n₅ n₆ n₇ e₀ e₁ e₂ e₃ e₄ e₅ e₆ e₇ =
-      rw (e₀, e₁, e₂, e₃, e₄, e₅, e₆, e₇) (sum_of_pairs _ _ _ _ _ _ _ _ _ _ _ _ _ _ _) ∙ sym (ap amount_in (eleven e h))
+-- What the halves of the first bytes spell: of one more, within its bound, and of all.
+pub amount_next : (bs : List ℕ) (i a n : ℕ) → i < length bs → a ≡ spelled (halves (take i bs)) → n ≡ get_or bs i 0 / 16 * 10 + get_or bs i 0 % 16
+    → a * 100 + n ≡ spelled (halves (take (i + 1) bs))
+amount_next bs i a n h e m =
+    let b = get_or bs i 0 in
+    let t : halves (take (i + 1) bs) ≡ halves (take i bs) ++ (b / 16 ∷ b % 16 ∷ []) = rw add-one (ap halves (take-suc bs i 0 h) ∙ halves_more (take i bs) b) in
+    rw (e, m, t) (sym (spelled_two (halves (take i bs)) (b / 16) (b % 16)))
+
+pub bound_next : (i a n : ℕ) → a + 2 ≤ 2 * 100 ^ i → n ≤ 165 → a * 100 + n + 2 ≤ 2 * 100 ^ (i + 1)
+bound_next i a n h m = rw (add-one, pow-succ' 100 i) (omega arith)
+
+pub bound_within : (i a k : ℕ) → i ≤ k → a + 2 ≤ 2 * 100 ^ i → a ≤ 2 * 100 ^ k
+bound_within i a k h b = let p : 100 ^ i ≤ 100 ^ k = pow-le-pow_right (omega arith) h in omega arith
+
+pub amount_is : (e : List ℕ) (a i : ℕ) → length e ≡ 11 → a ≡ spelled (halves (take i (pairs e))) → length (pairs e) ≤ i → a * 10 + get_or e 10 0 / 16 ≡ amount_in e
+unfolding amount_in
+amount_is e a i h s n =
+    rw (s, take_all i (pairs e) n) (sym (spelled_more (halves (pairs e)) (get_or e 10 0 / 16))) ∙ ap spelled (sym (fifteen e h))
 
 -- Tests of digits, two at a time.
-all_append : (xs ys : List ℕ) → (all is_digit xs && all is_digit ys) ≡ all is_digit (xs ++ ys)
-all_append [] ys = refl
-all_append (x ∷ xs) ys = and_assoc (is_digit x) (all is_digit xs) (all is_digit ys) ∙ ap (λ (t : Bool). is_digit x && t) (all_append xs ys)
-
-abbrev both_digits : ℕ → Bool
+abbrev pub both_digits : ℕ → Bool
 both_digits b = is_digit (b / 16) && is_digit (b % 16)
 
-two_more : (xs : List ℕ) (b : ℕ) (f d : Bool) → f ≡ all is_digit xs → d ≡ both_digits b → (f && d) ≡ all is_digit (xs ++ (b / 16 ∷ b % 16 ∷ []))
-two_more xs b f d p q = rw (p, q) (ap (λ (t : Bool). all is_digit xs && (is_digit (b / 16) && t)) (sym (and-true (is_digit (b % 16)))) ∙ all_append xs (b / 16 ∷ b % 16 ∷ []))
+abbrev pub folded : Bool → List ℕ → Bool
+folded r bs = fold (λ (ok : Bool) (b : ℕ). ok && both_digits b) r bs
 
-one_more : (xs : List ℕ) (a : ℕ) (f : Bool) → f ≡ all is_digit xs → (f && is_digit a) ≡ all is_digit (xs ++ (a ∷ []))
-one_more xs a f p = rw p (ap (λ (t : Bool). all is_digit xs && t) (sym (and-true (is_digit a))) ∙ all_append xs (a ∷ []))
+digits_more : (r : Bool) (bs : List ℕ) (a : ℕ) → (folded r bs && is_digit a) ≡ (r && all is_digit (halves bs ++ (a ∷ [])))
+unfolding halves
+digits_more r [] a = ap (λ (t : Bool). r && t) (sym (and-true (is_digit a)))
+digits_more r (b ∷ bs) a =
+    digits_more (r && both_digits b) bs a ∙ and_assoc r (both_digits b) (all is_digit (halves bs ++ (a ∷ [])))
+    ∙ ap (λ (t : Bool). r && t) (and_assoc (is_digit (b / 16)) (is_digit (b % 16)) (all is_digit (halves bs ++ (a ∷ []))))
 
-module _ (e : List ℕ) (h : length e ≡ 11) (d₀ d₁ d₂ d₃ d₄ d₅ d₆ : Bool) where
-  pub is_packed_lem : d₀ ≡ both_digits (get_or e 3 0) → d₁ ≡ both_digits (get_or e 4 0) → d₂ ≡ both_digits (get_or e 5 0) → d₃ ≡ both_digits (get_or e 6 0)
-      → d₄ ≡ both_digits (get_or e 7 0) → d₅ ≡ both_digits (get_or e 8 0) → d₆ ≡ both_digits (get_or e 9 0)
-      → (d₀ && d₁ && d₂ && d₃ && d₄ && d₅ && d₆ && is_digit (get_or e 10 0 / 16) && eqb (get_or e 10 0 % 16) 0xC) ≡ is_packed e
-  unfolding is_packed halves
-  is_packed_lem e₀ e₁ e₂ e₃ e₄ e₅ e₆ =
-      let x : ℕ → ℕ = λ k. get_or e k 0 in
-      let f₁ = two_more [] (x 3) true d₀ refl e₀ in
-      let f₂ = two_more (halves (ones 1 3 e)) (x 4) _ d₁ f₁ e₁ in
-      let f₃ = two_more (halves (ones 2 3 e)) (x 5) _ d₂ f₂ e₂ in
-      let f₄ = two_more (halves (ones 3 3 e)) (x 6) _ d₃ f₃ e₃ in
-      let f₅ = two_more (halves (ones 4 3 e)) (x 7) _ d₄ f₄ e₄ in
-      let f₆ = two_more (halves (ones 5 3 e)) (x 8) _ d₅ f₅ e₅ in
-      let f₇ = two_more (halves (ones 6 3 e)) (x 9) _ d₆ f₆ e₆ in
-      ap (λ (t : Bool). t && eqb (x 10 % 16) 0xC) (one_more (halves (ones 7 3 e)) (x 10 / 16) _ f₇) ∙ sym (ap is_packed (eleven e h))
+pub is_packed_by : (e : List ℕ) (r : Bool) → length e ≡ 11 → r ≡ folded true (pairs e)
+    → (r && is_digit (get_or e 10 0 / 16) && eqb (get_or e 10 0 % 16) 0xC) ≡ is_packed e
+unfolding is_packed
+is_packed_by e r h t = rw (t, digits_more true (pairs e) (get_or e 10 0 / 16), ← fifteen e h, ← sixteenth e h) refl

@@ -16,7 +16,7 @@ use Rattle.payments.specs.declared.lists.Payment.{Payment}
 use Rattle.payments.specs.Payments.{payment, is_party, listed, payment_of}
 use Rattle.payments.specs.Packed.{digits, spelled, joined, halves, packed, entry, written, parted, amount_halves, amount_in, payment_in, is_digit, is_packed, good}
 use Rattle.payments.specs.Answers.{writable}
-use Rattle.payments.proofs.Digits.{digits_length, digits_are, spelled_digits, spelled_below, digits_spelled, joined_halves, is_half, halves_joined}
+use Rattle.payments.proofs.Digits.{digits_length, digits_are, spelled_digits, spelled_below, digits_spelled, joined_halves, halves_all, halves_joined}
 use Rattle.payments.proofs.Listing.{entry_length}
 
 -- ---- tests that said yes
@@ -63,13 +63,6 @@ is_good e h =
 module _ (p : Payment) (w : Writable p) where
   abbrev amount : ℕ
   amount = p.amount.0
-
-  halves_all : (l : List ℕ) → all is_digit l ≡ true → all is_half (l ++ (0xC ∷ [])) ≡ true
-  halves_all [] h = refl
-  halves_all (x ∷ l) h =
-      let k = and_both (is_digit x) (all is_digit l) h in
-      let n : x ≤ 9 = leb-true x 9 k.0 in
-      and_make (le-leb x 15 (omega arith)) (halves_all l k.1)
 
   -- The half bytes of its amount.
   halved : amount_halves (entry p) ≡ digits 15 amount ++ (0xC ∷ [])
@@ -161,11 +154,6 @@ module _ (e : List ℕ) (n : length e ≡ 11) (g : Good e) where
   read_writable = and_make (and_make (and_make g.party (le-leb (u16_at e 1) 63 g.channel)) (ap not g.some)) (le-leb (amount_in e) 999999999999999 few_enough)
 
 -- ---- lists of entries
-
-pub written_length : (l : List Payment) → length (written l) ≡ 11 * length l
-unfolding written
-written_length [] = refl
-written_length (p ∷ l) = length-append (entry p) (written l) ∙ omega (arith, entry_length p, written_length l)
 
 pub parted_written : (l : List Payment) → parted (length l) (written l) ≡ map entry l
 unfolding written parted

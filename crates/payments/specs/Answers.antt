@@ -1,11 +1,13 @@
 -- Document 02, No. 6: what writing and reading answer, and the buffer or the lent list after them.
-use Rattle.std.specs.Prelude.{ℕ, ◌*◌, ◌/◌, ◌%◌, Bool, cond, not, ◌&&◌, List, [], ◌∷◌, map, eqb, leb, length}
+use Rattle.std.specs.Prelude.{ℕ, ◌*◌, ◌/◌, ◌%◌, Bool, cond, not, ◌&&◌, List, [], ◌∷◌, map, eqb, leb, length, Result, Ok, Err}
 use Rattle.wire.specs.Parts.{pasted, all}
 use Rattle.machine.specs.Checks.{Check, test, clean, judge}
 use Rattle.payments.specs.Payments.{is_party, listed}
 use Rattle.payments.specs.Packed.{written, entries_of, payment_in, good}
 use Rattle.payments.specs.declared.lists.Counted.{Counted}
 use Rattle.payments.specs.declared.lists.Payment.{Payment}
+use Rattle.payments.specs.declared.lists.Refusal.{Refusal}
+use Rattle.payments.specs.declared.lists.Refusal.TheVariants.{Unwritable, NoRoom, BadEntry}
 
 -- ---- the refusal and the number of payments, 0 where refused
 
@@ -14,6 +16,16 @@ accepted n = record { refusal = 0; payments = n }
 
 abbrev pub refused : ℕ → Counted
 refused r = record { refusal = r; payments = 0 }
+
+abbrev pub number_of : Refusal → ℕ
+number_of Unwritable = 17
+number_of NoRoom = 18
+number_of BadEntry = 19
+
+-- What C is told of an answer.
+abbrev pub counted_of : Result ℕ Refusal → Counted
+counted_of (Ok n) = accepted n
+counted_of (Err r) = refused (number_of r)
 
 -- The first check that says no decides.
 unfoldable pub refusal_of : List Check → ℕ

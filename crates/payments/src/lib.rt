@@ -7,6 +7,6 @@ mod packed;
 mod reading;
 mod writing;
 
-pub use lists::{Counted, Payment, accepted, listed, refused};
+pub use lists::{Counted, NoParty, Party, Payment, Refusal};
 pub use reading::read;
 pub use writing::write;

@@ -1,9 +1,11 @@
--- The run that a part is made of: what the code's run is, and how far it goes.
+-- The run that a part is made of: what the code's run is, how far it goes, and the part.
 use Prim.Native.Nat.{ℕ, ◌+◌, ◌-◌, ◌≤◌, ◌<◌}
 use native.Mathlib.Omega.{arith}
 use mathlib.Core.Path.{◌≡◌, sym, ap, ◌∙◌}
-use mathlib.Core.List.{List}
-use lib.Dec.{eqb}
+use mathlib.Core.List.{List, ◌++◌, append-nil}
+use Rattle.std.proofs.Common.{Some, None}
+use borrow.Author.Tests.{eq-eqb, ne_eqb}
+use Rattle.arrayvec.specs.ArrayVec.{ArrayVec}
 use lib.ListN.{length, take, drop, length-drop, length-replicate}
 use lib.Seq.{take_all, drop-drop}
 use Rattle.machine.specs.declared.state.Book.{Book}
@@ -11,11 +13,12 @@ use Rattle.journal.specs.declared.lines.Line.{Line}
 use Rattle.journal.specs.declared.runs.Ran.{Ran}
 use Rattle.journal.specs.Runs.{Done, run_of, ran_of}
 use Rattle.journal.proofs.Bounds.{run_bounds}
-use Rattle.report.specs.declared.parts.Part.{Part}
 use Rattle.report.specs.declared.parts.Reached.{Reached}
-use Rattle.report.specs.declared.texts.Text.{Text}
+use Rattle.report.specs.declared.parts.Part.{Part as Handed}
+use Rattle.report.specs.Lines.{lines_from, end_line}
 use Rattle.report.specs.Statement.{no_line, no_lines}
-use Rattle.report.specs.Parts.{stored, text_of, part_of, ran_from}
+use Rattle.report.specs.Parts.{text_of, ran_from, next_part, handed}
+use Rattle.report.proofs.Buffers.{shown_stored}
 
 pub length_no_lines : (n : ℕ) → length (no_lines n) ≡ n
 unfolding no_lines
@@ -50,20 +53,52 @@ pub same_run : (s : List ℕ) (x : Reached) (ls : List Line) → ls ≡ no_lines
     → run_of x.book (take (length s - (16 + x.used)) (drop (16 + x.used) s)) ls ≡ ran_from (drop 16 s) x
 same_run s x ls e = rw (rest s x.used, e)
 
--- What the code's run answers, and how far it goes.
-pub same_ran : (s : List ℕ) (x : Reached) (ls : List Line) (r : Ran) → ls ≡ no_lines 64
-    → r ≡ ran_of (run_of x.book (take (length s - (16 + x.used)) (drop (16 + x.used) s)) ls) → r ≡ ran_of (ran_from (drop 16 s) x)
-same_ran s x ls r e o = o ∙ ap ran_of (same_run s x ls e)
+-- The code's run: what it leaves, and how far it goes.
+pub record Runs (cs : List ℕ) (x : Reached) (r : Ran) (b : Book) (ls : List Line) : Type 0 where
+  pub ran : r ≡ ran_of (ran_from cs x)
+  pub book : b ≡ (ran_from cs x).book
+  pub written : ls ≡ (ran_from cs x).lines
+  pub lent : length ls ≡ 64
+  pub lines : r.lines ≤ 64
+  pub each : r.lines ≤ r.used
+  pub bytes : x.used + r.used ≤ length cs
 
-pub ran_bounds : (s : List ℕ) (x : Reached) (r : Ran) → r ≡ ran_of (ran_from (drop 16 s) x) → 16 + x.used ≤ length s
-    → (r.lines ≤ 64) × (r.lines ≤ r.used) × (16 + (x.used + r.used) ≤ length s)
-ran_bounds s x r e h =
-    let l = length-drop 16 s in
-    let g = goes (drop 16 s) x (omega (arith, l)) in
-    rw e (g.lines, g.each, omega (arith, g.bytes, l))
+pub runs : (s : List ℕ) (x : Reached) (r : Ran) (b : Book) (lent ls : List Line) → 16 + x.used ≤ length s → lent ≡ no_lines 64
+    → let d = run_of x.book (take (length s - (16 + x.used)) (drop (16 + x.used) s)) lent in (r ≡ ran_of d) × (b ≡ d.book) × (ls ≡ d.lines) → Runs (drop 16 s) x r b ls
+runs s x r b lent ls h e w =
+    let run = same_run s x lent e in
+    let g = goes (drop 16 s) x (omega (arith, length-drop 16 s)) in
+    let o : r ≡ ran_of (ran_from (drop 16 s) x) = w.0 ∙ ap ran_of run in
+    let p : ls ≡ (ran_from (drop 16 s) x).lines = w.2 ∙ ap (λ (d : Done). d.lines) run in
+    let k = run_bounds (no_lines 64) x.book (drop x.used (drop 16 s)) in
+    record {
+      ran = o;
+      book = w.1 ∙ ap (λ (d : Done). d.book) run;
+      written = p;
+      lent = ap length p ∙ omega (arith, k.lent, length_no_lines 64);
+      lines = rw o g.lines;
+      each = rw o g.each;
+      bytes = rw o g.bytes;
+    }
 
--- The part that is made of a run.
-pub made : (d : Done) (x : Reached) (r : Ran) (b : Book) (ls : List Line) (t : Text) → r ≡ ran_of d → b ≡ d.book → ls ≡ d.lines
-    → t ≡ stored (text_of ls r x.number (x.used + r.used))
-    → ◌≡◌ {A = Part} (record { text = t; more = eqb r.cause 13; next = record { book = b; used = x.used + r.used; number = x.number + r.lines } }) (part_of d x)
-made d x r b ls t p q l e = rw (e, p, q, l)
+abbrev text : List ℕ → ArrayVec ℕ
+text t = record { items = t }
+
+-- The part that is made of a run: where lines are short others follow, else an end.
+pub made_more : (cs : List ℕ) (x : Reached) (r : Ran) (b : Book) (ls : List Line) (t : ArrayVec ℕ) → Runs cs x r b ls → r.cause ≡ 13
+    → t.items ≡ lines_from x.number (take r.lines ls)
+    → ◌≡◌ {A = Handed} (record { text = t; next = Some (record { book = b; used = x.used + r.used; number = x.number + r.lines }) }) (handed (next_part cs x))
+unfolding next_part text_of
+made_more cs x r b ls t k c e =
+    let d : (ran_from cs x).cause ≡ 13 = sym (ap (λ (a : Ran). a.cause) k.ran) ∙ c in
+    let n : t ≡ text (lines_from x.number (take r.lines ls)) = ap text e in
+    rw (n, k.ran, k.book, k.written, shown_stored, eq-eqb (ran_from cs x).cause 13 d, append-nil)
+
+pub made_last : (cs : List ℕ) (x : Reached) (r : Ran) (b : Book) (ls : List Line) (t : ArrayVec ℕ) → Runs cs x r b ls → (r.cause ≡ 13 → ⊥)
+    → t.items ≡ lines_from x.number (take r.lines ls) ++ end_line (x.used + r.used) r.cause
+    → ◌≡◌ {A = Handed} (record { text = t; next = None }) (handed (next_part cs x))
+unfolding next_part text_of
+made_last cs x r b ls t k c e =
+    let d : (ran_from cs x).cause ≡ 13 → ⊥ = λ f. c (ap (λ (a : Ran). a.cause) k.ran ∙ f) in
+    let n : t ≡ text (lines_from x.number (take r.lines ls) ++ end_line (x.used + r.used) r.cause) = ap text e in
+    rw (n, k.ran, k.written, shown_stored, ne_eqb (ran_from cs x).cause 13 d)

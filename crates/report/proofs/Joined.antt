@@ -12,11 +12,10 @@ use Rattle.machine.specs.declared.state.Book.{Book}
 use Rattle.journal.specs.Runs.{Done, run_of}
 use Rattle.journal.specs.Continued.{written}
 use Rattle.journal.proofs.Bounds.{run_bounds}
-use Rattle.report.specs.declared.parts.Part.{Part}
 use Rattle.report.specs.declared.parts.Reached.{Reached}
 use Rattle.report.specs.Lines.{lines_from, end_line, no_book, too_long}
 use Rattle.report.specs.Statement.{no_lines, journal_text, opened_by, statement_of, NoFurther}
-use Rattle.report.specs.Parts.{stored, shown, begun, whole, text_of, ran_from, first_part, next_part, parts_from, printed, open_ended, PartsMean}
+use Rattle.report.specs.Parts.{Part, stored, shown, begun, whole, text_of, ran_from, first_part, next_part, parts_from, printed, open_ended, PartsMean}
 use Rattle.report.proofs.Buffers.{shown_stored}
 use Rattle.report.proofs.Going.{length_no_lines}
 use Rattle.report.proofs.RunTexts.{ran_text, by_last, by_more, from_start}
@@ -24,12 +23,12 @@ use Rattle.report.proofs.RunTexts.{ran_text, by_last, by_more, from_start}
 -- ---- the parts after the first
 
 -- A part that no other follows, and one that others follow.
-pub alone : (n : ℕ) (cs : List ℕ) (p : Part) → p.more ≡ false → parts_from n cs p ≡ p ∷ []
+alone : (n : ℕ) (cs : List ℕ) (p : Part) → p.more ≡ false → parts_from n cs p ≡ p ∷ []
 unfolding parts_from
 alone zero cs p e = refl
 alone (suc n) cs p e = simp e
 
-pub followed : (n : ℕ) (cs : List ℕ) (p : Part) → p.more ≡ true → parts_from (suc n) cs p ≡ p ∷ parts_from n cs (next_part cs p.next)
+followed : (n : ℕ) (cs : List ℕ) (p : Part) → p.more ≡ true → parts_from (suc n) cs p ≡ p ∷ parts_from n cs (next_part cs p.next)
 unfolding parts_from
 followed n cs p e = simp e
 
@@ -48,7 +47,8 @@ means_more zero cs p q t m = record { text = ap (λ (x : List ℕ). shown p.text
 means_more (suc n) cs p q t m = record { text = ap (λ (x : List ℕ). shown p.text ++ x) m.text; ends = m.ends }
 
 module _ (m : ℕ) (cs : List ℕ) where
-  abbrev rest_text : Reached → List ℕ
+  -- The statement's text from a place on.
+  abbrev pub rest_text : Reached → List ℕ
   rest_text x = ran_text x.number x.used (run_of x.book (drop x.used cs) (no_lines m))
 
   shown_next : (x : Reached) → shown (next_part cs x).text ≡ lines_from x.number (written (ran_from cs x)).lines ++ cond (eqb (ran_from cs x).cause 13) [] (end_line (x.used + (ran_from cs x).used) (ran_from cs x).cause)
@@ -65,28 +65,31 @@ module _ (m : ℕ) (cs : List ℕ) where
     fits : length (drop x.used cs) ≤ m
     fits = omega (arith, length-drop x.used cs)
 
-    -- The last part.
+    -- What is printed of the last part is all that is left, and of one that others follow it begins with it.
+    pub last_text : (r.cause ≡ 13 → ⊥) → shown p.text ≡ rest_text x
+    last_text e =
+        shown_next x
+        ∙ ap (λ (y : Bool). lines_from x.number (written r).lines ++ cond y [] (end_line (x.used + r.used) r.cause)) (ne_eqb r.cause 13 e)
+        ∙ sym (by_last x.book (drop x.used cs) x.number x.used m fits e)
+
+    pub more_text : r.cause ≡ 13 → shown p.text ++ rest_text p.next ≡ rest_text x
+    unfolding next_part
+    more_text e =
+        ap (λ (l : List ℕ). l ++ rest_text p.next)
+        (shown_next x ∙ ap (λ (y : Bool). lines_from x.number (written r).lines ++ cond y [] (end_line (x.used + r.used) r.cause)) (eq-eqb r.cause 13 e) ∙ append-nil (lines_from x.number (written r).lines))
+        ∙ ap (λ (l : List ℕ). lines_from x.number (written r).lines ++ ran_text (x.number + r.count) (x.used + r.used) (run_of r.book l (no_lines m))) (sym (drop-drop r.used x.used cs))
+        ∙ sym (by_more x.book (drop x.used cs) x.number x.used m fits e)
+
     is_last : (n : ℕ) → (r.cause ≡ 13 → ⊥) → Means (parts_from n cs p) (rest_text x)
     unfolding next_part
     is_last n e =
         let no : eqb r.cause 13 ≡ false = ne_eqb r.cause 13 e in
-        let t : shown p.text ≡ rest_text x =
-        shown_next x
-        ∙ ap (λ (y : Bool). lines_from x.number (written r).lines ++ cond y [] (end_line (x.used + r.used) r.cause)) no
-        ∙ sym (by_last x.book (drop x.used cs) x.number x.used m fits e) in
-        subst (λ (ps : List Part). Means ps (rest_text x)) (sym (alone n cs p no)) (subst (Means (p ∷ [])) t (means_alone p no))
+        subst (λ (ps : List Part). Means ps (rest_text x)) (sym (alone n cs p no)) (subst (Means (p ∷ [])) (last_text e) (means_alone p no))
 
-    -- One that others follow.
     is_followed : (n : ℕ) → r.cause ≡ 13 → Means (parts_from n cs (next_part cs p.next)) (rest_text p.next) → Means (parts_from (suc n) cs p) (rest_text x)
     unfolding next_part
     is_followed n e k =
-        let yes : eqb r.cause 13 ≡ true = eq-eqb r.cause 13 e in
-        let t : shown p.text ++ rest_text p.next ≡ rest_text x =
-        ap (λ (l : List ℕ). l ++ rest_text p.next)
-        (shown_next x ∙ ap (λ (y : Bool). lines_from x.number (written r).lines ++ cond y [] (end_line (x.used + r.used) r.cause)) yes ∙ append-nil (lines_from x.number (written r).lines))
-        ∙ ap (λ (l : List ℕ). lines_from x.number (written r).lines ++ ran_text (x.number + r.count) (x.used + r.used) (run_of r.book l (no_lines m))) (sym (drop-drop r.used x.used cs))
-        ∙ sym (by_more x.book (drop x.used cs) x.number x.used m fits e) in
-        subst (λ (ps : List Part). Means ps (rest_text x)) (sym (followed n cs p yes)) (subst (Means (p ∷ parts_from n cs (next_part cs p.next))) t (means_more n cs p (next_part cs p.next) (rest_text p.next) k))
+        subst (λ (ps : List Part). Means ps (rest_text x)) (sym (followed n cs p (eq-eqb r.cause 13 e))) (subst (Means (p ∷ parts_from n cs (next_part cs p.next))) (more_text e) (means_more n cs p (next_part cs p.next) (rest_text p.next) k))
 
   joins : (n : ℕ) (x : Reached) → length cs - x.used ≤ n → length cs - x.used ≤ m → Means (parts_from n cs (next_part cs x)) (rest_text x)
   unfolding next_part
@@ -106,15 +109,18 @@ means_whole : (n : ℕ) (cs t : List ℕ) → Means (parts_from n cs (whole t)) 
 means_whole n cs t = subst (λ (ps : List Part). Means ps t) (sym (alone n cs (whole t) refl)) (subst (Means (whole t ∷ [])) (shown_stored t) (means_alone (whole t) refl))
 
 -- A book with its journal: nothing is printed yet.
-unfoldable pub opened : Book → Part
+unfoldable opened : Book → Part
 opened b = record { text = stored []; more = true; next = begun b }
+
+pub begun_text : (b : Book) (cs : List ℕ) → rest_text (length cs) cs (begun b) ≡ journal_text b cs
+begun_text b cs = sym (from_start (run_of b cs (no_lines (length cs))))
 
 means_journal : (n : ℕ) (b : Book) (cs : List ℕ) → length cs < n → Means (parts_from n cs (opened b)) (journal_text b cs)
 unfolding opened
 means_journal zero b cs h = absurd (omega arith)
 means_journal (suc n) b cs h =
     let t : shown (stored []) ++ rest_text (length cs) cs (begun b) ≡ journal_text b cs =
-    ap (λ (l : List ℕ). l ++ rest_text (length cs) cs (begun b)) (shown_stored []) ∙ sym (from_start (run_of b cs (no_lines (length cs)))) in
+    ap (λ (l : List ℕ). l ++ rest_text (length cs) cs (begun b)) (shown_stored []) ∙ begun_text b cs in
     subst (λ (ps : List Part). Means ps (journal_text b cs)) (sym (followed n cs (opened b) refl))
     (subst (Means (opened b ∷ parts_from n cs (next_part cs (begun b)))) t
     (means_more n cs (opened b) (next_part cs (begun b)) (rest_text (length cs) cs (begun b)) (joins (length cs) cs n (begun b) (omega arith) (omega arith))))

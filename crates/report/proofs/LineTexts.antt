@@ -1,39 +1,31 @@
--- The last line, and lines, one after another.
-use Prim.Native.Nat.{ℕ, suc, ◌+◌, ◌≤◌, ◌<◌}
-use native.Mathlib.Numerals.{add-one}
-use native.Mathlib.Omega.{arith}
-use mathlib.Core.Path.{◌≡◌, ap, ◌∙◌}
-use mathlib.Core.List.{List, [], ◌∷◌, ◌++◌}
-use lib.ListN.{length, take, drop, get_or, drop_of_length-le, length-append, length-take}
-use lib.Seq.{drop-cons, get_or-take, paste}
-use Rattle.wire.specs.Parts.{pasted}
-use Rattle.wire.proofs.Pasting.{pasted_more}
+-- Lines as text, one after another.
+use Rattle.std.proofs.Common.{◌≡◌, ℕ, suc, ◌+◌, ◌<◌, ◌≤◌, List, [], ◌∷◌, ◌++◌, append_assoc, append-nil, add-one, arith, get_or, length, take, length-take, ap, ◌∙◌}
+use Rattle.std.proofs.Math.Seq.{take-suc, take_all}
 use Rattle.journal.specs.declared.lines.Line.{Line}
 use Rattle.decimals.specs.Numbers.{row}
-use Rattle.report.specs.Lines.{fields, lines_from, end_word, end_line}
-use Rattle.report.specs.Statement.{no_line}
+use Rattle.report.specs.Lines.{fields, lines_from}
 
--- The last line: the word and its numbers.
-pub end_put : (d e out : List ℕ) (at used cause r : ℕ) → e ≡ paste d at end_word 4
-    → out ≡ pasted e (at + 4) (row (used ∷ cause ∷ [])) → r ≡ at + 4 + length (row (used ∷ cause ∷ [])) → at + 4 ≤ length d
-    → (out ≡ pasted d at (end_line used cause)) × (r ≡ at + length (end_line used cause))
-unfolding end_line pasted
-end_put d e out at used cause r p o l h =
-    let n : length (end_line used cause) ≡ 4 + length (row (used ∷ cause ∷ [])) = length-append end_word (row (used ∷ cause ∷ [])) in
-    (o ∙ rw p (pasted_more d at end_word (row (used ∷ cause ∷ [])) h), l ∙ omega (arith, n))
-
--- ---- lines
-
--- A line and those after it, of the first so many.
-pub lines_split : (n count : ℕ) (ls : List Line) (i : ℕ) → i < count → count ≤ length ls
-    → lines_from (n + i) (drop i (take count ls)) ≡ row (fields (n + i) (get_or ls i no_line)) ++ lines_from (n + (i + 1)) (drop (i + 1) (take count ls))
+pub lines_append : (n : ℕ) (ls ms : List Line) → lines_from n (ls ++ ms) ≡ lines_from n ls ++ lines_from (n + length ls) ms
 unfolding lines_from
-lines_split n count ls i h k =
-    let b : i < length (take count ls) = simp length-take (omega arith) in
-    let e : suc (n + i) ≡ n + (i + 1) = omega arith in
-    ap (lines_from (n + i)) (drop-cons (take count ls) i no_line b)
-    ∙ rw (get_or-take count ls i no_line h, e, add-one)
+lines_append n [] ms = ap (λ (k : ℕ). lines_from k ms) (omega arith)
+lines_append n (l ∷ ls) ms =
+    let e : suc n + length ls ≡ n + suc (length ls) = omega arith in
+    rw (lines_append (suc n) ls ms, e, append_assoc)
 
-pub no_lines_left : (n count : ℕ) (ls : List Line) (i : ℕ) → count ≤ i → lines_from n (drop i (take count ls)) ≡ []
+pub no_lines_yet : (t : List ℕ) (n : ℕ) → t ++ lines_from n [] ≡ t
 unfolding lines_from
-no_lines_left n count ls i h = let b : length (take count ls) ≤ i = simp length-take (omega arith) in rw (drop_of_length-le (take count ls) b)
+no_lines_yet t n = append-nil t
+
+one_line : (n : ℕ) (l : Line) → lines_from n (l ∷ []) ≡ row (fields n l)
+unfolding lines_from
+one_line n l = append-nil (row (fields n l))
+
+-- The first i lines, and one more.
+pub lines_take : (n : ℕ) (ls : List Line) (i : ℕ) (d : Line) → i < length ls → lines_from n (take (i + 1) ls) ≡ lines_from n (take i ls) ++ row (fields (n + i) (get_or ls i d))
+lines_take n ls i d h =
+    let k : length (take i ls) ≡ i = length-take i ls ∙ omega arith in
+    rw (add-one, take-suc ls i d h, lines_append n (take i ls) (get_or ls i d ∷ []), k) (ap (λ (t : List ℕ). lines_from n (take i ls) ++ t) (one_line (n + i) (get_or ls i d)))
+
+-- All of them.
+pub lines_all : (n : ℕ) (ls : List Line) (i : ℕ) → length ls ≤ i → lines_from n (take i ls) ≡ lines_from n ls
+lines_all n ls i h = ap (lines_from n) (take_all i ls h)

@@ -1,9 +1,9 @@
 -- A run as text: by a run with 64 lines and those after it, and with any other lines.
-use Prim.Native.Nat.{ℕ, suc, ◌+◌, ◌-◌, ◌≤◌}
+use Prim.Native.Nat.{ℕ, ◌+◌, ◌-◌, ◌≤◌}
 use native.Mathlib.Nat.{add_assoc, add_comm, zero-add}
 use native.Mathlib.Omega.{arith}
 use mathlib.Core.Path.{◌≡◌, sym, ap, ◌∙◌}
-use mathlib.Core.List.{List, [], ◌∷◌, ◌++◌, append_assoc}
+use mathlib.Core.List.{List, [], ◌++◌, append_assoc}
 use lib.ListN.{length, take, drop, replicate-append-replicate}
 use lib.Seq.{take-append-add, take-append-le, take_all}
 use Rattle.machine.specs.declared.state.Book.{Book}
@@ -15,17 +15,11 @@ use Rattle.journal.proofs.Continued.{run_continued}
 use Rattle.report.specs.Lines.{lines_from, end_line}
 use Rattle.report.specs.Statement.{no_line, no_lines, run_text, JournalMeans}
 use Rattle.report.proofs.Going.{length_no_lines}
+use Rattle.report.proofs.LineTexts.{lines_append}
 
 -- Its lines, numbered from n on, and its end, u bytes having been used before.
 abbrev pub ran_text : ℕ → ℕ → Done → List ℕ
 ran_text n u d = lines_from n (written d).lines ++ end_line (u + d.used) d.cause
-
-lines_append : (n : ℕ) (ls ms : List Line) → lines_from n (ls ++ ms) ≡ lines_from n ls ++ lines_from (n + length ls) ms
-unfolding lines_from
-lines_append n [] ms = ap (λ (k : ℕ). lines_from k ms) (omega arith)
-lines_append n (l ∷ ls) ms =
-    let e : suc n + length ls ≡ n + suc (length ls) = omega arith in
-    rw (lines_append (suc n) ls ms, e, append_assoc)
 
 -- With more lines lent it is the same.
 of_widened : (n u : ℕ) (ms : List Line) (d : Done) → d.count ≤ length d.lines → ran_text n u (widened ms d) ≡ ran_text n u d

@@ -1,18 +1,24 @@
 -- A statement in parts: the run is called again while lines are short (document 01, "Journal and due list").
-use Rattle.std.specs.Prelude.{ℕ, zero, suc, ◌+◌, ◌≡◌, Bool, true, false, cond, List, [], ◌∷◌, ◌++◌, eqb, ltb, length, take, drop, replicate}
+use Rattle.std.specs.Prelude.{ℕ, zero, suc, ◌+◌, ◌≡◌, Bool, true, false, cond, List, [], ◌∷◌, ◌++◌, eqb, ltb, length, take, drop, replicate, codes, Result, Ok, Err, Some, None}
 use Rattle.wire.specs.Parts.{pasted}
 use Rattle.machine.specs.Opening.{blank_book}
 use Rattle.machine.specs.declared.state.Book.{Book}
 use Rattle.journal.specs.declared.lines.Line.{Line}
 use Rattle.journal.specs.declared.runs.Ran.{Ran}
 use Rattle.journal.specs.Runs.{Done, run_of, ran_of}
-use Rattle.report.specs.declared.parts.Part.{Part}
+use Rattle.report.specs.declared.parts.Part.{Part as Handed}
 use Rattle.report.specs.declared.parts.Reached.{Reached}
-use Rattle.report.specs.declared.texts.Text.{Text}
+use Rattle.report.specs.declared.parts.Refused.{Refused}
+use Rattle.report.specs.declared.parts.Refused.TheVariants.{NoBook, TooLong}
 use Rattle.report.specs.Lines.{lines_from, end_line, no_book, too_long}
 use Rattle.report.specs.Statement.{no_lines, opened_by, statement_of}
 
 -- ---- a text in a buffer
+
+-- A text at the start of its bytes.
+pub record Text : Type 0 where
+  pub bytes : List ℕ
+  pub size : ℕ
 
 -- An empty buffer, with room for 64 lines of 126 bytes and an end of 46.
 unfoldable pub no_bytes : List ℕ
@@ -27,6 +33,12 @@ abbrev pub shown : Text → List ℕ
 shown x = take x.size x.bytes
 
 -- ---- parts
+
+-- Some of a statement's text, whether more of it follows, and from where.
+pub record Part : Type 0 where
+  pub text : Text
+  pub more : Bool
+  pub next : Reached
 
 -- A book before its journal.
 abbrev pub begun : Book → Reached
@@ -89,3 +101,19 @@ open_ended (p ∷ (q ∷ ps)) = open_ended (q ∷ ps)
 pub record PartsMean (input : List ℕ) : Type 0 where
   pub joined : printed (parts_of input) ≡ statement_of input
   pub ends : open_ended (parts_of input) ≡ false
+
+-- ---- what the code answers
+
+-- A refused input is told in a line.
+abbrev pub told : Refused → List ℕ
+told NoBook = codes "no book"
+told TooLong = codes "too long"
+
+-- The first part: nothing yet of a book with its journal, or the line that tells the refusal.
+abbrev pub first_of : Result Reached Refused → Part
+first_of (Ok x) = record { text = stored []; more = true; next = x }
+first_of (Err r) = whole (told r ++ (0x0A ∷ []))
+
+-- Of a part its text, and from where the next one follows, where one does.
+abbrev pub handed : Part → Handed
+handed p = record { text = record { items = shown p.text }; next = cond p.more (Some p.next) None }

@@ -3,7 +3,6 @@
 
 mod lines;
 mod parts;
-mod texts;
 
-pub use parts::{Part, Reached, first_part, next_part};
-pub use texts::Text;
+pub use lines::Text;
+pub use parts::{Part, Reached, Refused, begin, next_part};

@@ -1,55 +1,53 @@
 // The lines of a statement, as text.
-ghost use Rattle.std.specs.Prelude.{◌≡◌, ◌+◌, ◌*◌, ◌^◌, ◌<◌, ◌≤◌, length, take};
-ghost use Rattle.wire.specs.Parts.{pasted};
+ghost use Rattle.std.specs.Prelude.{◌≡◌, ◌++◌, ◌+◌, ◌*◌, ◌^◌, ◌<◌, ◌≤◌, length};
+ghost use Rattle.arrayvec.specs.ArrayVec.{array_vec_len};
 ghost use Rattle.decimals.specs.Numbers.{row};
 ghost use Rattle.report.specs.Lines.{fields, lines_from, end_line};
 
+use arrayvec::ArrayVec;
 use decimals::put_row;
 use journal::Line;
-use wire::copy_into;
+
+// Text with room for 64 lines and an end.
+pub type Text = ArrayVec<u8, 8110>;
 
 // Number, refusal, paid to the customer, paid to the merchant, chain steps, fee.
-fn put_line(out: &mut [u8], at: usize, number: usize, line: Line) -> usize
-    requires { at + 126 ≤ length out.old }
-    ensures { (out.new ≡ pasted out.old at (row (fields number line)))
-        × (result ≡ at + length (row (fields number line))) × (result ≤ at + 126) }
+#[tactic(auto, unfolding(crate::specs::Lines::fields))]
+fn put_line(out: &mut Text, number: usize, line: Line)
+    requires { array_vec_len out.old + 126 ≤ 8110 }
+    ensures text { out.new.items ≡ out.old.items ++ row (fields number line) }
+    ensures size { array_vec_len out.new ≤ array_vec_len out.old + 126 }
 {
     let answer = line.answer;
     let numbers = [
         number as u64,
-        answer.refusal as u64,
+        u64::from(answer.refusal),
         answer.customer.0,
         answer.merchant.0,
-        answer.steps as u64,
+        u64::from(answer.steps),
         answer.fee.0,
     ];
-    put_row(out, at, &numbers)
+    put_row(out, &numbers);
 }
 
-// The first lines, so many, numbered from a number on; answers the length of their text.
-pub fn put_lines(out: &mut [u8], lines: [Line; 64], count: usize, number: usize) -> usize
-    requires { (count ≤ 64) × (number + 64 < 2 ^ 64) × (126 * count ≤ length out.old) }
-    ensures { (out.new ≡ pasted out.old 0 (lines_from number (take count lines)))
-        × (result ≡ length (lines_from number (take count lines))) × (result ≤ 126 * count) }
+// Appends lines, numbered from a number on.
+#[tactic(auto, using(crate::proofs::LineTexts::no_lines_yet, crate::proofs::LineTexts::lines_take, crate::proofs::LineTexts::lines_all, std::proofs::Common::append_assoc))]
+pub fn put_lines(out: &mut Text, lines: &[Line], number: usize)
+    requires { (array_vec_len out.old + 126 * length lines.now ≤ 8110) × (number + length lines.now < 2 ^ 64) }
+    ensures text { out.new.items ≡ out.old.items ++ lines_from number lines.now }
+    ensures size { array_vec_len out.new ≤ array_vec_len out.old + 126 * length lines.now }
 {
-    let mut at: usize = 0;
-    let mut i: usize = 0;
-    while i < count {
-        let line = lines[i];
-        let next = put_line(out, at, number + i, line);
-        at = next;
-        i += 1;
+    for (i, line) in lines.iter().enumerate() {
+        put_line(out, number + i, *line);
     }
-    at
 }
 
-// The last line: bytes used and cause.
-pub fn put_end(out: &mut [u8], at: usize, used: usize, cause: u64) -> usize
-    requires { at + 46 ≤ length out.old }
-    ensures { (out.new ≡ pasted out.old at (end_line used cause))
-        × (result ≡ at + length (end_line used cause)) × (result ≤ at + 46) }
+// Appends the last line: bytes used and cause.
+#[tactic(auto, using(std::proofs::Common::append_assoc), unfolding(crate::specs::Lines::end_line))]
+pub fn put_end(out: &mut Text, used: usize, cause: u64)
+    requires { array_vec_len out.old + 46 ≤ 8110 }
+    ensures { out.new.items ≡ out.old.items ++ end_line used cause }
 {
-    copy_into(b"end ", out, at);
-    let numbers = [used as u64, cause];
-    put_row(out, at + 4, &numbers)
+    out.try_extend_from_slice(b"end ").unwrap();
+    put_row(out, &[used as u64, cause]);
 }

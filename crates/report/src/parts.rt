@@ -1,12 +1,32 @@
 // A statement, part by part.
-ghost use Rattle.std.specs.Prelude.{◌≡◌, ◌+◌, ◌≤◌, length, drop};
+ghost use Rattle.std.specs.Prelude.{◌≡◌, ◌+◌, ◌≤◌, length, drop, Some};
+ghost use Rattle.machine.specs.Opening.{opening, plainly, blank_book};
 ghost use Rattle.report.specs.Statement.{no_lines};
-ghost use Rattle.report.specs.Parts.{begun, whole, first_part, next_part};
+ghost use Rattle.report.specs.Parts.{first_part, next_part, told, first_of, handed};
 
-use crate::texts::{Text, run_text, text_of};
+use crate::lines::{Text, put_end, put_lines};
 use arbiter::{blank, opened};
-use journal::{Line, run_of};
+use journal::{Cause, Line, run};
 use machine::{Answer, Book, Cents};
+use std::fmt;
+
+// Why an input has no journal to run.
+#[derive(Clone, Copy, Debug, PartialEq, Eq)]
+pub enum Refused {
+    NoBook,
+    TooLong,
+}
+
+impl fmt::Display for Refused {
+    ghost output = { λ refused. Some (told refused) };
+
+    fn fmt<W: fmt::Write>(&self, f: &mut fmt::Formatter<W>) -> fmt::Result {
+        f.write_str(match self {
+            Refused::NoBook => "no book",
+            Refused::TooLong => "too long",
+        })
+    }
+}
 
 // How far a statement has come: the book, the bytes used of the journal, the next line's number.
 #[derive(Drop)]
@@ -16,17 +36,17 @@ pub struct Reached {
     pub number: usize,
 }
 
-// Some of a statement's text, whether more of it follows, and from where.
+// Some of a statement's text, and from where more of it follows.
 #[derive(Drop)]
 pub struct Part {
     pub text: Text,
-    pub more: bool,
-    pub next: Reached,
+    pub next: Option<Reached>,
 }
 
 // Lines to write to.
+#[tactic(auto, unfolding(crate::specs::Statement::no_lines))]
 fn no_lines() -> [Line; 64]
-    ensures { (result ≡ no_lines 64) × (length result ≡ 64) }
+    ensures { result ≡ no_lines 64 }
 {
     let answer = Answer {
         refusal: 0,
@@ -35,75 +55,53 @@ fn no_lines() -> [Line; 64]
         steps: 0,
         fee: Cents(0),
     };
-    let line = Line { answer };
-    [line; 64]
+    [Line { answer }; 64]
 }
 
-fn begin(book: Book) -> Reached
-    ensures { result ≡ begun book }
+// The book that an id opens.
+fn book_of(id: &[u8]) -> Book
+    ensures { result ≡ (opening blank_book (plainly id.now)).book }
 {
-    Reached {
-        book,
-        used: 0,
-        number: 1,
+    match opened(id) {
+        Ok(book) => book,
+        Err(_) => blank(),
     }
 }
 
-// A text that is the whole statement.
-fn whole(t: &[u8]) -> Part
-    requires { length t.now ≤ 8110 }
-    ensures { result ≡ whole t.now }
-{
-    let text = text_of(t);
-    let next = begin(blank());
-    Part {
-        text,
-        more: false,
-        next,
-    }
-}
-
-// The first part of an input's statement: without an id there is no book.
+// Where the statement of an input begins: with the book that its first 16 bytes open, before its journal.
 #[tactic(auto, unfolding(crate::specs::Parts::first_part))]
-pub fn first_part(input: &[u8]) -> Part
-    ensures { result ≡ first_part input.now }
+pub fn begin(input: &[u8]) -> Result<Reached, Refused>
+    ensures { first_of result ≡ first_part input.now }
 {
     if input.len() < 16 {
-        return whole(b"no book\n");
+        return Err(Refused::NoBook);
     }
     if input.len() > 65536 {
-        return whole(b"too long\n");
+        return Err(Refused::TooLong);
     }
-    let book = opened(blank(), &input[0..16]).book;
-    let text = text_of(b"");
-    let next = begin(book);
-    Part {
-        text,
-        more: true,
-        next,
-    }
+    Ok(Reached {
+        book: book_of(&input[..16]),
+        used: 0,
+        number: 1,
+    })
 }
 
-// The part that follows, of an input that has an id: a run on the rest of the journal.
+// The part that follows, of an input that has an id: a run on the rest of the journal, and the end where lines are not short.
 pub fn next_part(input: &[u8], from: Reached) -> Part
     requires { (16 + from.used ≤ length input.now) × (from.number ≤ from.used + 1) }
-    ensures { result ≡ next_part (drop 16 input.now) from }
+    ensures { result ≡ handed (next_part (drop 16 input.now) from) }
 {
-    let at = 16 + from.used;
-    let done = run_of(from.book, &input[at..], no_lines());
-    let ran = done.ran;
-    let lines = done.lines;
+    let mut book = from.book;
+    let mut lines = no_lines();
+    let ran = run(&mut book, &input[16 + from.used..], &mut lines);
     let used = from.used + ran.used;
-    let text = run_text(lines, ran, from.number, used);
-    let book = done.book;
-    let next = Reached {
-        book,
-        used,
-        number: from.number + ran.lines,
-    };
-    Part {
-        text,
-        more: ran.cause == 13,
-        next,
+    let mut text = Text::new();
+    put_lines(&mut text, &lines[..ran.lines], from.number);
+    if ran.cause == u64::from(Cause::NoLine) {
+        let number = from.number + ran.lines;
+        let next = Some(Reached { book, used, number });
+        return Part { text, next };
     }
+    put_end(&mut text, used, ran.cause);
+    Part { text, next: None }
 }

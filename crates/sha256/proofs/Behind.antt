@@ -3,6 +3,8 @@ use Prim.Native.Nat.{ℕ, ◌+◌, ◌-◌, ◌*◌, ◌/◌, ◌%◌, ◌^◌, 
 use native.Mathlib.Omega.{arith}
 use mathlib.Core.Path.{◌≡◌, refl, ap, sym, ◌∙◌}
 use mathlib.Core.List.{List, [], ◌∷◌, ◌++◌, append_assoc}
+use lib.Bits.{bit_or}
+use Rattle.std.proofs.lemmas.Nat.{or_shifted}
 use lib.ListN.{length, take, drop, get_or, length-append, length-drop, get_or-append}
 use lib.Seq.{take_all, take-suc, take-add, drop-drop, get_or-drop, get_or-append-add}
 use Rattle.wire.specs.Numbers.{bytes, u32_at}
@@ -17,6 +19,13 @@ use Rattle.sha256.proofs.Single.{single, single_length}
 -- A word of the last three bytes of x and the first of y.
 abbrev pub joint : ℕ → ℕ → ℕ
 joint x y = x % 2 ^ 24 * 2 ^ 8 + y / 2 ^ 24 % 2 ^ 8
+
+-- So it is by shifts.
+pub joined_is : (x y : ℕ) → y < 2 ^ 32 → bit_or (x * 2 ^ 8 % 2 ^ 32) (y / 2 ^ 24) ≡ x % 2 ^ 24 * 2 ^ 8 + y / 2 ^ 24 % 2 ^ 8
+joined_is x y h =
+    let a : x * 2 ^ 8 % 2 ^ 32 ≡ x % 2 ^ 24 * 2 ^ 8 = omega arith in
+    let b : y / 2 ^ 24 ≡ y / 2 ^ 24 % 2 ^ 8 = omega arith in
+    ap (λ (n : ℕ). bit_or n (y / 2 ^ 24)) a ∙ or_shifted (x % 2 ^ 24) 8 (y / 2 ^ 24) (omega arith) ∙ ap (λ (n : ℕ). x % 2 ^ 24 * 2 ^ 8 + n) b
 
 -- The last three bytes of x, one by one: y, z and w are x without its last one, two and three.
 three : (x y z w : ℕ) → y ≡ x / 2 ^ 8 → z ≡ y / 2 ^ 8 → w ≡ z / 2 ^ 8 → x % 2 ^ 24 * 2 ^ 8 ≡ z % 256 * 2 ^ 24 + y % 256 * 2 ^ 16 + x % 256 * 2 ^ 8
@@ -49,22 +58,22 @@ module _ (f : List ℕ) (v : Variables) (l : length f ≡ 23) where
   whole = ap (λ (n : ℕ). (f ++ digest_of v) ++ padding n) size ∙ append_assoc f (digest_of v) (padding 55)
 
   -- The last of the 23 bytes, and the first of the hash value.
-  seam : (x : ℕ) → x ≡ get_or f 20 0 * 2 ^ 16 + get_or f 21 0 * 2 ^ 8 + get_or f 22 0 → x < 2 ^ 24 → joint x v.a ≡ u32_at (f ++ rest) 20
+  seam : (x : ℕ) → x ≡ get_or f 20 0 * 2 ^ 24 + get_or f 21 0 * 2 ^ 16 + get_or f 22 0 * 2 ^ 8 + v.a / 2 ^ 24 → v.a < 2 ^ 32 → x ≡ u32_at (f ++ rest) 20
   unfolding u32_at digest_of bytes
   seam x e h =
-      let j : joint x v.a ≡ get_or f 20 0 * 2 ^ 24 + get_or f 21 0 * 2 ^ 16 + get_or f 22 0 * 2 ^ 8 + v.a / 2 ^ 24 % 256 = omega arith in
+      let a : v.a / 2 ^ 24 ≡ v.a / 2 ^ 24 % 256 = omega arith in
       let b : get_or (f ++ rest) (23 + 0) 0 ≡ get_or rest 0 0 = ap (λ (n : ℕ). get_or (f ++ rest) (n + 0) 0) (sym l) ∙ get_or-append-add f rest 0 0 in
-      j
+      e
       ∙ four _ _ _ _ _ _ _ _ (sym (get_or-append f rest 0 20 (omega arith))) (sym (get_or-append f rest 0 21 (omega arith)))
-      (sym (get_or-append f rest 0 22 (omega arith))) (sym b)
+      (sym (get_or-append f rest 0 22 (omega arith))) (a ∙ sym b)
 
   -- The words of the block.
-  pub block_words : (x₀ x₁ x₂ x₃ x₄ last : ℕ) → x₀ ≡ u32_at f 0 → x₁ ≡ u32_at f 4 → x₂ ≡ u32_at f 8 → x₃ ≡ u32_at f 12 → x₄ ≡ u32_at f 16
-      → last ≡ get_or f 20 0 * 2 ^ 16 + get_or f 21 0 * 2 ^ 8 + get_or f 22 0 → last < 2 ^ 24
-      → x₀ ∷ x₁ ∷ x₂ ∷ x₃ ∷ x₄ ∷ joint last v.a ∷ joint v.a v.b ∷ joint v.b v.c ∷ joint v.c v.d ∷ joint v.d v.e ∷ joint v.e v.f
+  pub block_words : (x₀ x₁ x₂ x₃ x₄ x₅ : ℕ) → x₀ ≡ u32_at f 0 → x₁ ≡ u32_at f 4 → x₂ ≡ u32_at f 8 → x₃ ≡ u32_at f 12 → x₄ ≡ u32_at f 16
+      → x₅ ≡ get_or f 20 0 * 2 ^ 24 + get_or f 21 0 * 2 ^ 16 + get_or f 22 0 * 2 ^ 8 + v.a / 2 ^ 24 → v.a < 2 ^ 32
+      → x₀ ∷ x₁ ∷ x₂ ∷ x₃ ∷ x₄ ∷ x₅ ∷ joint v.a v.b ∷ joint v.b v.c ∷ joint v.c v.d ∷ joint v.d v.e ∷ joint v.e v.f
       ∷ joint v.f v.g ∷ joint v.g v.h ∷ joint v.h 0x80000000 ∷ 0 ∷ 440 ∷ [] ≡ words (padded (f ++ digest_of v))
   unfolding words u32_at digest_of bytes padding
-  block_words x₀ x₁ x₂ x₃ x₄ last e₀ e₁ e₂ e₃ e₄ e h =
+  block_words x₀ x₁ x₂ x₃ x₄ x₅ e₀ e₁ e₂ e₃ e₄ e₅ h =
       let front : (at : ℕ) → at + 4 ≤ 23 → u32_at f at ≡ u32_at (f ++ rest) at = λ at k. sym (u32_front f rest at (omega arith)) in
       let behind : (k : ℕ) → u32_at rest k ≡ u32_at (f ++ rest) (23 + k) = λ k. sym (u32_behind f rest 23 k l) in
       cc (
@@ -74,7 +83,7 @@ module _ (f : List ℕ) (v : Variables) (l : length f ≡ 23) where
         e₂ ∙ front 8 (omega arith),
         e₃ ∙ front 12 (omega arith),
         e₄ ∙ front 16 (omega arith),
-        seam last e h,
+        seam x₅ e₅ h,
         spelled v.a v.b ∙ behind 1,
         spelled v.b v.c ∙ behind 5,
         spelled v.c v.d ∙ behind 9,

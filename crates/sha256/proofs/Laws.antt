@@ -1,27 +1,36 @@
 -- Laws of bytes in a row, of bytes written into a block and of the hash value after some blocks.
-use Prim.Native.Nat.{ℕ, zero, suc, ◌+◌, ◌*◌, ◌/◌, ◌%◌, ◌^◌, ◌≤◌}
+use Prim.Native.Nat.{ℕ, zero, suc, ◌+◌, ◌*◌, ◌≤◌, ◌<◌}
 use native.Mathlib.Omega.{arith}
-use mathlib.Core.Path.{◌≡◌, refl, ap, ◌∙◌}
-use mathlib.Core.List.{List, ◌++◌}
-use lib.ListN.{length, take, drop, length-drop, length-take}
-use lib.Seq.{take-length, take-append-le, drop-append-le, take-paste, paste}
+use mathlib.Core.Path.{◌≡◌, refl, sym, ap, ◌∙◌}
+use mathlib.Core.List.{List, [], ◌++◌}
+use lib.ListN.{length, take, drop, get_or, length-drop, length-take}
+use lib.Seq.{take-length, length-take-le, take-append-le, drop-append-le, take-paste, paste}
+use Rattle.std.specs.List.{flat_map}
+use Rattle.std.proofs.lemmas.List.{flat_map_more, take_more}
+use Rattle.wire.specs.Numbers.{bytes}
+use Rattle.wire.proofs.Laws.{bytes_length}
 use Rattle.sha256_block.specs.declared.rounds.Variables.{Variables}
 use Rattle.sha256_block.specs.Block.{compress_of}
-use Rattle.wire.proofs.Laws.{both}
-use Rattle.wire.specs.Numbers.{bytes}
 use Rattle.sha256.specs.Digest.{hashed, block_of}
-
--- Eight bytes are four and four.
-pub halves : (x : ℕ) → bytes 8 x ≡ bytes 4 (x / 2 ^ 32) ++ bytes 4 (x % 2 ^ 32)
-unfolding bytes
-halves x =
-    both (omega arith) (both (omega arith) (both (omega arith) (both (omega arith) (both (omega arith) (both (omega arith) (both (omega arith) (both (omega arith) refl)))))))
 
 -- What stands in the front of a block, and what is written behind that.
 pub front : (b p q : List ℕ) (at : ℕ) → take at b ≡ p → length p ≡ at → take (at + length q) (paste b at q (length q)) ≡ p ++ q
 front b p q at e l =
     let h : at ≤ length b = omega (arith, ap length e, length-take at b) in
     take-paste b at q (length q) h (omega arith) ∙ ap (λ (x : List ℕ). x ++ take (length q) q) e ∙ ap (λ (x : List ℕ). p ++ x) (take-length q)
+
+-- One word more behind those that stand in front.
+pub word_more : (out next ws p : List ℕ) (i d : ℕ) → i < length ws → 4 * i ≤ length out → take (4 * i) out ≡ flat_map (bytes 4) (take i ws) → p ≡ bytes 4 (get_or ws i d)
+    → next ≡ paste out (4 * i) p (length p) → take (4 * (i + 1)) next ≡ flat_map (bytes 4) (take (i + 1) ws)
+word_more out next ws p i d h room e ep en =
+    let l : length p ≡ 4 = ap length ep ∙ bytes_length 4 (get_or ws i d) in
+    let k : 4 * (i + 1) ≡ 4 * i + length p = omega arith in
+    ap (λ (n : ℕ). take n next) k
+    ∙ ap (take (4 * i + length p)) en
+    ∙ front out (flat_map (bytes 4) (take i ws)) p (4 * i) e (ap length (sym e) ∙ length-take-le (4 * i) out room)
+    ∙ ap (λ (x : List ℕ). flat_map (bytes 4) (take i ws) ++ x) ep
+    ∙ flat_map_more (bytes 4) [] (take i ws) (get_or ws i d)
+    ∙ ap (flat_map (bytes 4)) (sym (take_more ws i d h))
 
 -- What follows does not change the hash value after the blocks before.
 pub hashed_front : (k : ℕ) (m x : List ℕ) → 64 * k ≤ length m → hashed k (m ++ x) ≡ hashed k m

@@ -1,8 +1,9 @@
 // SHA-256 (FIPS 180-4) of at most 65,536 bytes.
 #![tactic(auto)]
 
-ghost use Rattle.std.specs.Prelude.{◌≡◌};
-ghost use Rattle.sha256.specs.Answer.{hash_answer};
+ghost use Rattle.std.specs.Prelude.{◌≡◌, ◌≤◌, length};
+ghost use Rattle.sha256.specs.Answer.{answer_of, hash_answer};
+ghost use Rattle.sha256.specs.Digest.{sha256};
 
 mod bytes;
 mod state;
@@ -12,28 +13,28 @@ pub use bytes::digest;
 pub use state::Sha256;
 pub use step::{hash_after, value_at};
 
-// What `hash` answers: the refusal, or 0, and the digest.
-#[derive(Clone, Copy)]
-pub struct Hashed {
-    pub refusal: u32,
-    pub digest: [u8; 32],
+// A message has more bytes than its limit.
+#[derive(Clone, Copy, Debug, PartialEq, Eq)]
+pub struct TooLong;
+
+// Its number as a refusal.
+impl From<TooLong> for u32 {
+    ghost from_gives = { λ _ n. n ≡ 2 };
+
+    fn from(_: TooLong) -> u32 {
+        2
+    }
 }
 
-// The digest of at most 65,536 bytes, with refusal 0; of more, refusal 2 and zeros.
+// The digest of at most 65,536 bytes.
 #[tactic(auto, using(crate::proofs::Feeding::fed))]
-pub fn hash(bytes: &[u8]) -> Hashed
-    ensures { result ≡ hash_answer bytes.now }
+pub fn hash(bytes: &[u8]) -> Result<[u8; 32], TooLong>
+    ensures answer { answer_of result ≡ hash_answer bytes.now }
+    ensures within { length bytes.now ≤ 65536 → result ≡ Ok (sha256 bytes.now) }
 {
     if bytes.len() <= 65536 {
-        let d = Sha256::new().feed(bytes).finish();
-        Hashed {
-            refusal: 0,
-            digest: d,
-        }
+        Ok(Sha256::new().feed(bytes).finish())
     } else {
-        Hashed {
-            refusal: 2,
-            digest: [0; 32],
-        }
+        Err(TooLong)
     }
 }

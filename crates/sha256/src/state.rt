@@ -1,9 +1,10 @@
 // The state of a hash under way, by value: new, fed any number of parts, finished. Only the product's own parts call it.
-ghost use Rattle.std.specs.Prelude.{◌≡◌, List, [], ◌∷◌, ℕ, ◌+◌, ◌<◌, ◌^◌, length, replicate};
+ghost use Rattle.std.specs.Prelude.{◌≡◌, List, [], ◌∷◌, ℕ, ◌+◌, ◌<◌, ◌≤◌, ◌^◌, length, replicate};
+ghost use Rattle.std.proofs.Math.Seq.{paste};
 ghost use Rattle.sha256.specs.Digest.{H⁰, sha256};
 ghost use Rattle.sha256.specs.State.{Taken, Fed};
 
-use crate::bytes::{bit_length, digest, written};
+use crate::bytes::{bit_length, digest};
 use sha256_block::{Variables, compress};
 
 #[derive(Clone, Copy)]
@@ -38,14 +39,25 @@ fn mark() -> [u8; 64]
     m
 }
 
+// Part written into the block from byte at on. With copy_into each part was a call of memcpy, and a key making copied more than tests/footprint.c allows: the
+// compiler does not see that `% 64` changes nothing, and keeps the loop.
+fn write_into(part: &[u8], block: &mut [u8; 64], at: usize)
+    requires { at + length part.now ≤ 64 }
+    ensures { block.new ≡ paste block.old at part.now (length part.now) }
+{
+    for (j, byte) in part.iter().enumerate() {
+        block[(at + j) % 64] = *byte;
+    }
+}
+
 impl Sha256 {
     // Nothing taken in.
+    #[tactic(auto, unfolding(crate::specs::Digest::hashed))]
     pub fn new() -> Self
         ensures { Taken result [] }
     {
-        let h = initial();
         Sha256 {
-            h: h,
+            h: initial(),
             buf: [0; 64],
             n: 0,
         }
@@ -56,52 +68,32 @@ impl Sha256 {
         requires { self.n + length part.now < 2 ^ 64 }
         ensures { Fed self part.now result }
     {
-        let n = self.n;
-        let used = n % 64;
+        let used = self.n % 64;
         let room = 64 - used;
-        let len = part.len();
-        let buf = self.buf;
-        self.n = n + len;
-        if len < room {
-            let more = written(buf, used, part);
-            self.buf = more;
+        self.n += part.len();
+        if part.len() < room {
+            write_into(part, &mut self.buf, used);
             return self;
         }
-        let full = written(buf, used, &part[..room]);
-        let begun = self.h;
-        let mut h = compress(begun, &full, 0);
-        let mut i = room;
-        while 64 <= len - i {
-            h = compress(h, part, i);
-            i += 64;
+        let (front, rest) = part.split_at(room);
+        write_into(front, &mut self.buf, used);
+        self.h = compress(self.h, &self.buf, 0);
+        let (blocks, tail) = rest.as_chunks::<64>();
+        for block in blocks {
+            self.h = compress(self.h, block, 0);
         }
-        let rest = written(full, 0, &part[i..]);
-        self.h = h;
-        self.buf = rest;
+        write_into(tail, &mut self.buf, 0);
         self
     }
 
-    // The digest of what was taken in.
+    // The digest of what was taken in: the bit 1 and zeros are fed, and then the length.
     pub fn finish(self) -> [u8; 32]
         requires { self.n < 2 ^ 61 }
         ensures { (m : List ℕ) → Taken self m → result ≡ sha256 m }
     {
-        let n = self.n;
-        let used = n % 64;
-        let h = self.h;
-        let buf = self.buf;
-        let marked = mark();
-        let bits = bit_length(n);
-        if used < 56 {
-            let rest = 56 - used;
-            let ended = written(buf, used, &marked[..rest]);
-            let last = written(ended, 56, &bits);
-            digest(compress(h, &last, 0))
-        } else {
-            let rest = 64 - used;
-            let ended = written(buf, used, &marked[..rest]);
-            let last = written([0; 64], 56, &bits);
-            digest(compress(compress(h, &ended, 0), &last, 0))
-        }
+        let zeros = (119 - self.n % 64) % 64;
+        let bits = bit_length(self.n);
+        let whole = self.feed(&mark()[..1 + zeros]).feed(&bits);
+        digest(whole.h)
     }
 }

@@ -4,8 +4,8 @@ ghost use Rattle.wire.specs.Parts.{part};
 ghost use Rattle.sha256.specs.Digest.{digest_of, sha256};
 
 use crate::state::initial;
-use sha256_block::{Variables, Words, compress_words};
-use wire::{u32_at, wide};
+use sha256_block::{Variables, compress_words};
+use wire::u32_at;
 
 // The hash value whose bytes are the 32 of s from place at on. Only the product's own parts call it.
 pub fn value_at(s: &[u8], at: usize) -> Variables
@@ -25,34 +25,35 @@ pub fn value_at(s: &[u8], at: usize) -> Variables
 }
 
 // The word of the last three bytes of x and the first of y.
+#[tactic(auto, using(crate::proofs::Behind::joined_is))]
 fn joined(x: u32, y: u32) -> u32
     ensures { result ≡ x % 2 ^ 24 * 2 ^ 8 + y / 2 ^ 24 % 2 ^ 8 }
 {
-    x % 0x1000000 * 256 + y / 0x1000000 % 256
+    (x << 8) | (y >> 24)
 }
 
 // The hash value of the bytes of first and those of v. Only the product's own parts call it.
 pub fn hash_after(first: [u8; 23], v: Variables) -> Variables
     ensures { digest_of result ≡ sha256 (first ++ digest_of v) }
 {
-    let last = wide(first[20]) * 0x10000 + wide(first[21]) * 256 + wide(first[22]);
-    let block = Words {
-        w0: u32_at(&first, 0),
-        w1: u32_at(&first, 4),
-        w2: u32_at(&first, 8),
-        w3: u32_at(&first, 12),
-        w4: u32_at(&first, 16),
-        w5: joined(last, v.a),
-        w6: joined(v.a, v.b),
-        w7: joined(v.b, v.c),
-        w8: joined(v.c, v.d),
-        w9: joined(v.d, v.e),
-        w10: joined(v.e, v.f),
-        w11: joined(v.f, v.g),
-        w12: joined(v.g, v.h),
-        w13: joined(v.h, 0x80000000),
-        w14: 0,
-        w15: 440,
-    };
+    let seam = u32::from_be_bytes([first[20], first[21], first[22], (v.a >> 24) as u8]);
+    let block = [
+        u32_at(&first, 0),
+        u32_at(&first, 4),
+        u32_at(&first, 8),
+        u32_at(&first, 12),
+        u32_at(&first, 16),
+        seam,
+        joined(v.a, v.b),
+        joined(v.b, v.c),
+        joined(v.c, v.d),
+        joined(v.d, v.e),
+        joined(v.e, v.f),
+        joined(v.f, v.g),
+        joined(v.g, v.h),
+        joined(v.h, 0x80000000),
+        0,
+        440,
+    ];
     compress_words(initial(), block)
 }

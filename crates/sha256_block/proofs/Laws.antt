@@ -1,9 +1,24 @@
 -- Laws of the schedule and of the rounds, by which the code's steps, taken one by one, are the definition's.
-use Rattle.std.proofs.Common.{◌≡◌, ℕ, zero, suc, ◌+◌, ◌-◌, ◌*◌, ◌<◌, ◌≤◌, Bool, true, false, ltb, List, [], ◌∷◌, ◌++◌, length, get_or, take, drop, sym, refl, ap, ◌∙◌, append_assoc, append-nil, add_assoc, suc-add, zero-add, arith, length-append, get_or-drop, get_or-take, get_or-append-add, ltb-false, ltb-true}
+use Rattle.std.proofs.Common.{◌≡◌, ℕ, zero, suc, ◌+◌, ◌-◌, ◌*◌, ◌%◌, ◌<◌, ◌≤◌, Bool, true, false, ltb, List, [], ◌∷◌, ◌++◌, length, get_or, take, drop, sym, refl, ap, ◌∙◌, append_assoc, append-nil, add_assoc, suc-add, zero-add, arith, length-append, get_or-drop, get_or-take, get_or-append-add, drop-cons, ltb-false, ltb-true}
+use Rattle.std.proofs.Math.ListN.{set, get_or-append}
+use Rattle.std.proofs.Math.Seq.{take-add}
+use Rattle.std.proofs.lemmas.List.{length-take, take_more_set, drop-set-lt, drop-drop}
+use Rattle.std.specs.Int.{rotate_right, w32}
 use Rattle.wire.specs.Numbers.{u32_at}
+use Rattle.wire.specs.Parts.{part}
 use Rattle.sha256_block.specs.declared.rounds.Variables.{Variables}
+use Rattle.sha256_block.specs.Functions.{rotr}
 use Rattle.sha256_block.specs.Constants.{K}
-use Rattle.sha256_block.specs.Block.{round_of, rounds, extended, Wₜ}
+use Rattle.sha256_block.specs.Block.{round_of, rounds, extended, next_word, Wₜ}
+use Rattle.sha256_block.specs.Ring.{Ring}
+
+-- A rotation.
+pub rotated : (x n : ℕ) → 0 < n → n < 32 → rotate_right w32 x n ≡ rotr n x
+unfolding rotr
+rotated x n p h =
+    let a : n % 32 ≡ n = omega arith in
+    let b : (32 - n) % 32 ≡ 32 - n = omega arith in
+    rw (a, b)
 
 -- One round, and the rest.
 pub turn : (k w : ℕ) (ks ws : List ℕ) (v : Variables) {u r : Variables} → u ≡ round_of v k w → r ≡ rounds ks ws u → r ≡ rounds (k ∷ ks) (w ∷ ws) v
@@ -14,11 +29,6 @@ turn k w ks ws v p q = q ∙ ap (rounds ks ws) p
 pub turned : {v : Variables} → v ≡ rounds [] [] v
 unfolding rounds
 turned = refl
-
--- One word more, and the rest.
-pub more : (n : ℕ) (w : List ℕ) (x : ℕ) (r : List ℕ) → x ≡ Wₜ w → extended n (w ++ x ∷ []) ≡ r → extended (suc n) w ≡ r
-unfolding extended
-more n w x r p q = ap (λ (y : ℕ). extended n (w ++ y ∷ [])) (sym p) ∙ q
 
 -- No word more.
 pub enough : (w : List ℕ) → extended 0 w ≡ w
@@ -59,6 +69,59 @@ rounds_then [] [] ls us v h = refl
 rounds_then [] (w ∷ ws) ls us v h = absurd (omega arith)
 rounds_then (k ∷ ks) [] ls us v h = absurd (omega arith)
 rounds_then (k ∷ ks) (w ∷ ws) ls us v h = rounds_then ks ws ls us (round_of v k w) (omega arith)
+
+-- With i rounds made, n more.
+pub more_rounds : (n i : ℕ) (ks ws : List ℕ) (h v r : Variables) → length ks ≡ length ws → v ≡ rounds (take i ks) (take i ws) h → r ≡ rounds (part ks i n) (part ws i n) v
+    → r ≡ rounds (take (i + n) ks) (take (i + n) ws) h
+more_rounds n i ks ws h v r l p q =
+    let m : length (take i ks) ≡ length (take i ws) = simp length-take (omega arith) in
+    rw (q, p, take-add i n ks, take-add i n ws) (sym (rounds_then (take i ks) (take i ws) (part ks i n) (part ws i n) h m))
+
+-- Four elements from place i on.
+pub four_of : (l : List ℕ) (i : ℕ) → i + 4 ≤ length l → part l i 4 ≡ get_or l i 0 ∷ get_or l (i + 1) 0 ∷ get_or l (i + 2) 0 ∷ get_or l (i + 3) 0 ∷ []
+four_of l i h =
+    let a : i + 1 ≡ suc i = omega arith in
+    let b : i + 2 ≡ suc (suc i) = omega arith in
+    let c : i + 3 ≡ suc (suc (suc i)) = omega arith in
+    rw (a, b, c, drop-cons l i 0 (omega arith), drop-cons l (suc i) 0 (omega arith), drop-cons l (suc (suc i)) 0 (omega arith), drop-cons l (suc (suc (suc i))) 0 (omega arith))
+
+-- What stands at the place k before the next, in the words and in the ring.
+ring_at : (x w : List ℕ) (i k : ℕ) → i < 16 → 0 < k → k ≤ 16 → length x ≡ 16 → length w ≡ 16 → Ring x i w → get_or (x ++ take i w) (16 + i - k) 0 ≡ get_or w ((i + (16 - k)) % 16) 0
+ring_at x w i k a b c d e r = go (ltb i k) refl where
+  go : (t : Bool) → ltb i k ≡ t → get_or (x ++ take i w) (16 + i - k) 0 ≡ get_or w ((i + (16 - k)) % 16) 0
+  go true t =
+      let h : i < k = ltb-true i k t in
+      let m : 16 + i - k ≡ i + (16 - k) = omega arith in
+      let n : (i + (16 - k)) % 16 ≡ i + (16 - k) = omega arith in
+      rw (get_or-append x (take i w) 0 (16 + i - k) (omega arith), m, n) (sym (get_or-drop i x (16 - k) 0) ∙ ap (λ (l : List ℕ). get_or l (16 - k) 0) (sym r.left) ∙ get_or-drop i w (16 - k) 0)
+  go false t =
+      let h : k ≤ i = ltb-false i k t in
+      let m : 16 + i - k ≡ length x + (i - k) = omega arith in
+      let n : (i + (16 - k)) % 16 ≡ i - k = omega arith in
+      rw (m, n) (get_or-append-add x (take i w) (i - k) 0 ∙ get_or-take i w (i - k) 0 (omega arith))
+
+-- One word more in the ring.
+pub ring_on : (x w : List ℕ) (i n : ℕ) → i < 16 → length x ≡ 16 → length w ≡ 16 → n ≡ next_word (get_or w ((i + 14) % 16) 0) (get_or w ((i + 9) % 16) 0) (get_or w ((i + 1) % 16) 0) (get_or w i 0)
+    → Ring x i w → Ring x (i + 1) (set w i n)
+unfolding extended
+ring_on x w i n h d e q r =
+    let z : (i + 0) % 16 ≡ i = omega arith in
+    let l : length (x ++ take i w) ≡ 16 + i = length-append x (take i w) ∙ omega (arith, length-take i w) in
+    let next : Wₜ (x ++ take i w) ≡ n =
+    cc (l, q, z, ring_at x w i 2 h (omega arith) (omega arith) d e r, ring_at x w i 7 h (omega arith) (omega arith) d e r, ring_at x w i 15 h (omega arith) (omega arith) d e r, ring_at x w i 16 h (omega arith) (omega arith) d e r) in
+    record {
+      made =
+          extended_add i 1 x
+          ∙ ap (λ (u : List ℕ). u ++ Wₜ u ∷ []) r.made
+          ∙ ap (λ (y : ℕ). (x ++ take i w) ++ y ∷ []) next
+          ∙ append_assoc x (take i w) (n ∷ [])
+          ∙ ap (λ (u : List ℕ). x ++ u) (sym (take_more_set w i n (omega arith)));
+      left = drop-set-lt (i + 1) w i n (omega arith) ∙ sym (drop-drop 1 i w) ∙ ap (drop 1) r.left ∙ drop-drop 1 i x;
+    }
+
+-- The same ring, its place spelled another way.
+pub ring_same : (x w : List ℕ) (i j : ℕ) → i ≡ j → Ring x i w → Ring x j w
+ring_same x w i j e r = rw (← e) r
 
 -- Sixteen rounds of those that are left, before quarter i of a block: w is its words and w' those of the next quarter, where there is one.
 pub quarter : (i : ℕ) (ks w w' : List ℕ) (v v' : Variables) → i < 4 → drop (16 * i) K ≡ ks ++ drop (16 * (i + 1)) K → length ks ≡ length w → length w' ≡ 16

@@ -2,4 +2,4 @@
 pub mod Functions
 pub mod Constants
 pub mod Block
-pub mod Listed
+pub mod Ring

@@ -7,4 +7,3 @@ mod rounds;
 mod schedule;
 
 pub use rounds::{Variables, compress, compress_words};
-pub use schedule::Words;

@@ -10,9 +10,8 @@ use Rattle.lms.specs.Layout.{leaf}
 use Rattle.lms.specs.Check.{check_of}
 use Rattle.lms.proofs.LeafLaw.{leaf_law}
 use Rattle.signer.specs.declared.state.Signer.{Signer}
-use Rattle.signer.specs.declared.state.SignedMessage.{SignedMessage}
 use Rattle.signer.specs.Nodes.{key_of}
-use Rattle.signer.specs.Answers.{make_of, sign_of}
+use Rattle.signer.specs.Answers.{SignedMessage, make_of, sign_of}
 use Rattle.signer.specs.Signings.{Signing, signings, leaves, Passing, more, SignerSafe}
 use Rattle.signer.proofs.Signings.{signer_theorem}
 

@@ -11,11 +11,10 @@ use lib.ListN.{length, get_or, length-append}
 use Rattle.wire.specs.Numbers.{bytes}
 use Rattle.wire.specs.Parts.{part, same}
 use Rattle.wire.proofs.Laws.{and_make, same_refl, bytes_length, u32_front}
-use Rattle.lms.specs.declared.Checked.{Checked}
 use Rattle.lms.specs.Layout.{identifier, root, leaf, one_time_type, nonce, string, tree_type, path, key_type, key_one_time_type, well_formed}
 use Rattle.lms.specs.OneTime.{message_hash, digits, leaf_key}
 use Rattle.lms.specs.Tree.{leaf_node, climb}
-use Rattle.lms.specs.Check.{verified_of, checked_by, check_of}
+use Rattle.lms.specs.Check.{Checked, verified_of, checked_by, check_of}
 use Rattle.lms.specs.Rows.{row}
 use Rattle.signer.specs.Strings.{string_of, leaf_public}
 use Rattle.signer.specs.Nodes.{T, nodes_of, key_of}

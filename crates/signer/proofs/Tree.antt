@@ -157,15 +157,15 @@ module _ (seed I : List ℕ) where
   kept_length zero h = refl
   kept_length (suc k) h = ap (λ (x : Node). length x.value) (from_at empty 2047 1 k (omega arith)) ∙ T_length (1 + k)
 
-  -- A tree that is filled down to node r: every node above r stands in its place.
+  -- A tree that is filled down to node r: every node from r on stands in its place.
   pub record Filled (nodes : List Node) (r : ℕ) : Type 0 where
     pub size : length nodes ≡ 2048
-    pub within : r ≤ 2047
+    pub within : r ≤ 2048
     pub zeros : get_or nodes 0 empty ≡ no_node
-    pub above : (k : ℕ) → r < k → k < 2048 → get_or nodes k empty ≡ record { value = T seed I k }
+    pub above : (k : ℕ) → r ≤ k → k < 2048 → get_or nodes k empty ≡ record { value = T seed I k }
 
   -- The value of node r by what stands in the places of its children.
-  value_of : (nodes : List Node) (r : ℕ) → Filled nodes r → 0 < r → node_of seed I r (node_value nodes (2 * r % 2048)) (node_value nodes ((2 * r + 1) % 2048)) ≡ T seed I r
+  value_of : (nodes : List Node) (r : ℕ) → Filled nodes (r + 1) → 0 < r → node_of seed I r (node_value nodes (2 * r % 2048)) (node_value nodes ((2 * r + 1) % 2048)) ≡ T seed I r
   value_of nodes r f h = go (leb 1024 r) refl where
     go : (b : Bool) → leb 1024 r ≡ b → node_of seed I r (node_value nodes (2 * r % 2048)) (node_value nodes ((2 * r + 1) % 2048)) ≡ T seed I r
     go true e =
@@ -181,8 +181,8 @@ module _ (seed I : List ℕ) where
         ap (node_value nodes) b ∙ ap (λ (n : Node). n.value) (f.above (2 * r + 1) (omega arith) (omega arith)) in
         ap (λ (t : List ℕ). node_of seed I r t (node_value nodes ((2 * r + 1) % 2048))) x ∙ ap (node_of seed I r (T seed I (2 * r))) y ∙ sym (T_eq r h)
 
-  pub fill : (nodes : List Node) (r : ℕ) (x : List ℕ) → Filled nodes r → 0 < r
-      → x ≡ node_of seed I r (node_value nodes (2 * r % 2048)) (node_value nodes ((2 * r + 1) % 2048)) → Filled (set nodes r (record { value = x })) (r - 1)
+  pub fill : (nodes : List Node) (r : ℕ) (x : List ℕ) → Filled nodes (r + 1) → 0 < r
+      → x ≡ node_of seed I r (node_value nodes (2 * r % 2048)) (node_value nodes ((2 * r + 1) % 2048)) → Filled (set nodes r (record { value = x })) r
   fill nodes r x f h e =
       record {
         size = length-set nodes r (record { value = x }) ∙ f.size;
@@ -190,7 +190,7 @@ module _ (seed I : List ℕ) where
         zeros = get_or-set_other nodes r 0 (record { value = x }) empty (λ z. omega arith) ∙ f.zeros;
         above = λ k l m. go k m (eqb k r) refl l;
       } where
-        go : (k : ℕ) → k < 2048 → (b : Bool) → eqb k r ≡ b → r - 1 < k → get_or (set nodes r (record { value = x })) k empty ≡ record { value = T seed I k }
+        go : (k : ℕ) → k < 2048 → (b : Bool) → eqb k r ≡ b → r ≤ k → get_or (set nodes r (record { value = x })) k empty ≡ record { value = T seed I k }
         go k m true z l =
             let s : k ≡ r = eqb-true k r z in
             ap (λ (j : ℕ). get_or (set nodes r (record { value = x })) j empty) s
@@ -199,8 +199,8 @@ module _ (seed I : List ℕ) where
         go k m false z l =
             get_or-set_other nodes r k (record { value = x }) empty (eqb-false k r z) ∙ f.above k (omega (arith, eqb-false k r z)) m
 
-  -- Filled down to 0 it is the whole tree.
-  pub full : (nodes : List Node) (r : ℕ) → Filled nodes r → r ≤ 0 → nodes ≡ nodes_of seed I
+  -- Filled down to 1 it is the whole tree.
+  pub full : (nodes : List Node) (r : ℕ) → Filled nodes r → r ≤ 1 → nodes ≡ nodes_of seed I
   full nodes r f h = ext_get_or empty nodes (nodes_of seed I) (f.size ∙ sym kept_size) at where
     at : (i : ℕ) → i < length nodes → get_or nodes i empty ≡ get_or (nodes_of seed I) i empty
     at zero l = f.zeros ∙ first_kept

@@ -9,5 +9,5 @@ mod strings;
 
 pub use making::{made, make};
 pub use signing::{sign, signed};
-pub use state::{MadeKey, Node, Signature, SignedMessage, Signer};
+pub use state::{Node, Refusal, Signature, Signer};
 pub use strings::leaf_public;

@@ -1,4 +1,9 @@
-// What a signer holds, and what key making and signing answer.
+// What a signer holds, why key making or signing is refused, and what a signing answers to C.
+ghost use Rattle.std.specs.Prelude.{◌≡◌};
+ghost use Rattle.signer.specs.Answers.{number_of, answered};
+ghost use Rattle.signer.specs.declared.state.Refusal.TheVariants.{Length};
+
+use std::array::TryFromSliceError;
 
 // The value of one node of the tree.
 #[repr(C)]
@@ -17,15 +22,33 @@ pub struct Signer {
     pub nodes: [Node; 2048],
 }
 
-// What key making gives: the signer, and the refusal, or 0.
-#[repr(C)]
+// A seed, an identifier, a nonce or a message of a wrong length; no leaf left.
 #[derive(Clone, Copy)]
-pub struct MadeKey {
-    pub signer: Signer,
-    pub refusal: u32,
+pub enum Refusal {
+    Length,
+    NoLeaf,
 }
 
-// What a signing answers: the refusal, or 0, and the signature.
+impl From<Refusal> for u32 {
+    ghost from_gives = { λ r n. n ≡ number_of r };
+
+    fn from(refusal: Refusal) -> u32 {
+        match refusal {
+            Refusal::Length => 2,
+            Refusal::NoLeaf => 15,
+        }
+    }
+}
+
+impl From<TryFromSliceError> for Refusal {
+    ghost from_gives = { λ _ r. r ≡ Length };
+
+    fn from(_: TryFromSliceError) -> Refusal {
+        Self::Length
+    }
+}
+
+// What a signing answers to C: the refusal, or 0, and the signature, or zeros.
 #[repr(C)]
 #[derive(Clone, Copy)]
 pub struct Signature {
@@ -33,10 +56,16 @@ pub struct Signature {
     pub bytes: [u8; 1452],
 }
 
-// What a signing gives: the signer as it is left, and the answer.
-#[repr(C)]
-#[derive(Clone, Copy)]
-pub struct SignedMessage {
-    pub signer: Signer,
-    pub signature: Signature,
+impl From<Result<[u8; 1452], Refusal>> for Signature {
+    ghost from_gives = { λ signed answer. answer ≡ answered signed };
+
+    fn from(signed: Result<[u8; 1452], Refusal>) -> Signature {
+        match signed {
+            Ok(bytes) => Signature { refusal: 0, bytes },
+            Err(refusal) => Signature {
+                refusal: refusal.into(),
+                bytes: [0u8; 1452],
+            },
+        }
+    }
 }

@@ -7,11 +7,9 @@ mod rows;
 mod small_tree;
 
 use std::process::ExitCode;
-use streams::{read_full, status_after};
+use streams::run_whole;
 
 // A closed output ends the program without a word.
 fn main(rt: HostRuntime) -> ExitCode {
-    let mut input = [0u8; 65536];
-    let n = read_full(&mut rt.stdin(), &mut input);
-    ExitCode::from(status_after(rows::run(&rt, &input[..n])))
+    ExitCode::from(run_whole(&mut rt.stdin(), |input| rows::run(&rt, input)))
 }

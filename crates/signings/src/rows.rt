@@ -1,12 +1,58 @@
 // A row is a byte that says what it is, and two fields, each with two bytes of length before it: 1 is the root of a small tree, 2 a key making,
 // 3 a signing, and any other a next leaf.
-ghost use Rattle.std.specs.Prelude.{◌≤◌, length};
+ghost use Rattle.std.specs.Prelude.{◌<◌, length, IfSome};
 
 use crate::lines::{print_checks, print_leaf, print_made, print_root, print_signed};
 use crate::small_tree::root;
-use signer::{Node, Signer};
+use signer::{Node, Signature, Signer};
 use std::io;
-use wire::{digest_at, id_at, u16_at, u32_at};
+use streams::field;
+use wire::u32_at;
+
+// What a row is.
+#[derive(Clone, Copy)]
+enum Kind {
+    Root,
+    Make,
+    Sign,
+    Leaf,
+}
+
+impl From<u8> for Kind {
+    fn from(byte: u8) -> Kind {
+        match byte {
+            1 => Kind::Root,
+            2 => Kind::Make,
+            3 => Kind::Sign,
+            _ => Kind::Leaf,
+        }
+    }
+}
+
+#[derive(Clone, Copy)]
+struct Row<'a> {
+    kind: Kind,
+    first: &'a [u8],
+    second: &'a [u8],
+}
+
+// The row at the start of m, and what stands behind it.
+fn next_row(m: &[u8]) -> Option<(Row<'_>, &[u8])>
+    ensures { IfSome result (λ r. length r.1.now < length m.now) }
+{
+    let (kind, rest) = m.split_first()?;
+    let (first, rest) = field(rest)?;
+    let (second, rest) = field(rest)?;
+    let kind = Kind::from(*kind);
+    Some((
+        Row {
+            kind,
+            first,
+            second,
+        },
+        rest,
+    ))
+}
 
 // A signer to lend to the first key making. No byte of it is 0.
 fn any_signer() -> Signer {
@@ -22,101 +68,61 @@ fn any_signer() -> Signer {
 
 // The root of a small tree, by a seed and an identifier.
 fn root_row(rt: &impl Print, seed: &[u8], id: &[u8]) -> io::Result<()> {
-    if seed.len() != 32 {
-        return Ok(());
+    match (<[u8; 32]>::try_from(seed), <[u8; 16]>::try_from(id)) {
+        (Ok(seed), Ok(id)) => print_root(rt, root(id, seed)),
+        _ => Ok(()),
     }
-    if id.len() != 16 {
-        return Ok(());
-    }
-    print_root(rt, root(id_at(id, 0), digest_at(seed, 0)))
 }
 
 // A key making, by a seed and an identifier.
-fn make_row(rt: &impl Print, signer: Signer, seed: &[u8], id: &[u8]) -> io::Result<Signer> {
-    let made = signer::made(signer, seed, id);
-    print_made(rt, made)?;
-    Ok(made.signer)
+fn make_row(rt: &impl Print, lent: Signer, seed: &[u8], id: &[u8]) -> io::Result<Signer> {
+    let (signer, made) = signer::made(lent, seed, id);
+    print_made(rt, &signer, made)?;
+    Ok(signer)
 }
 
 // A signing, by a C and a message; what was signed is checked under the signer's key.
-fn sign_row(rt: &impl Print, signer: Signer, nonce: &[u8], message: &[u8]) -> io::Result<Signer> {
-    let signed = signer::signed(signer, nonce, message);
-    let after = signed.signer;
-    let signature = signed.signature;
-    print_signed(rt, after.next, signature)?;
-    if signature.refusal == 0 {
+fn sign_row(rt: &impl Print, lent: Signer, nonce: &[u8], message: &[u8]) -> io::Result<Signer> {
+    let (signer, signed) = signer::signed(lent, nonce, message);
+    print_signed(rt, signer.next, &Signature::from(signed))?;
+    if let Ok(bytes) = signed {
         let key = signer.key;
-        let bytes = signature.bytes;
         print_checks(rt, key, message, bytes)?;
     }
-    Ok(after)
+    Ok(signer)
 }
 
 // The next leaf, in four bytes, set from outside.
-fn leaf_row(rt: &impl Print, signer: Signer, leaf: &[u8]) -> io::Result<Signer> {
-    if leaf.len() != 4 {
-        return Ok(signer);
+fn leaf_row(rt: &impl Print, lent: Signer, leaf: &[u8]) -> io::Result<Signer> {
+    let mut signer = lent;
+    if leaf.len() == 4 {
+        signer.next = u32_at(leaf, 0);
+        print_leaf(rt, signer.next)?;
     }
-    let mut after = signer;
-    after.next = u32_at(leaf, 0);
-    print_leaf(rt, after.next)?;
-    Ok(after)
+    Ok(signer)
 }
 
 // What a row makes of the signer.
-fn row(
-    rt: &impl Print,
-    signer: Signer,
-    kind: u8,
-    first: &[u8],
-    second: &[u8],
-) -> io::Result<Signer> {
-    if kind == 1 {
-        root_row(rt, first, second)?;
-        return Ok(signer);
+fn after(rt: &impl Print, signer: Signer, row: Row<'_>) -> io::Result<Signer> {
+    match row.kind {
+        Kind::Root => {
+            root_row(rt, row.first, row.second)?;
+            Ok(signer)
+        }
+        Kind::Make => make_row(rt, signer, row.first, row.second),
+        Kind::Sign => sign_row(rt, signer, row.first, row.second),
+        Kind::Leaf => leaf_row(rt, signer, row.first),
     }
-    if kind == 2 {
-        return make_row(rt, signer, first, second);
-    }
-    if kind == 3 {
-        return sign_row(rt, signer, first, second);
-    }
-    leaf_row(rt, signer, first)
-}
-
-// Where the field that begins at `at` ends; `at` where no whole field begins there.
-fn field_end(m: &[u8], at: usize) -> usize
-    requires { at ≤ length m.now }
-    ensures upper_bound { result ≤ length m.now }
-    ensures lower_bound { at ≤ result }
-{
-    let left = m.len() - at;
-    if left < 2 {
-        return at;
-    }
-    let size = u16_at(m, at) as usize;
-    if left - 2 < size {
-        return at;
-    }
-    at + 2 + size
 }
 
 // Runs every whole row of m.
 pub fn run(rt: &impl Print, m: &[u8]) -> io::Result<()> {
     let mut signer = any_signer();
-    let mut at: usize = 0;
-    while at < m.len() {
-        let middle = field_end(m, at + 1);
-        if middle - at < 3 {
-            return Ok(());
-        }
-        let end = field_end(m, middle);
-        if end - middle < 2 {
-            return Ok(());
-        }
-        let next = row(rt, signer, m[at], &m[at + 3..middle], &m[middle + 2..end])?;
-        signer = next;
-        at = end;
+    let mut rest = m;
+    while let Some((row, behind)) = next_row(rest) {
+        let left = after(rt, signer, row)?;
+        signer = left;
+        rest = behind;
     }
     Ok(())
 }

@@ -1,8 +1,6 @@
 // Reads a book's id and a journal from standard input, and prints a line for each command and a last one for the journal.
 #![tactic(auto)]
 
-mod input;
-mod output;
 mod printing;
 mod stating;
 
@@ -10,10 +8,14 @@ use crate::stating::{Failure, state};
 use std::process::ExitCode;
 use streams::status_after;
 
-// A closed output ends the program without a word.
+// A closed output ends the program without a word; an input that fails has no statement, only a complaint.
 fn main(rt: HostRuntime) -> ExitCode {
-    match state(&mut rt.stdin(), &mut rt.stdout(), &mut rt.stderr()) {
+    match state(&mut rt.stdin(), &mut rt.stdout()) {
+        Ok(()) => ExitCode::SUCCESS,
+        Err(Failure::Input(_)) => {
+            let _ = eprintln!(rt; "statement: the input failed");
+            ExitCode::SUCCESS
+        }
         Err(Failure::Output(e)) => ExitCode::from(status_after(Err(e))),
-        _ => ExitCode::SUCCESS,
     }
 }

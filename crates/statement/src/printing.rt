@@ -3,8 +3,7 @@ ghost use Rattle.std.specs.Prelude.{OnOk};
 ghost use Rattle.std.specs.Io.KnownBytes.{Appends};
 ghost use Rattle.report.specs.Statement.{statement_of};
 
-use crate::output::print;
-use report::{first_part, next_part};
+use report::{begin, next_part};
 use std::io;
 use std::io::Write;
 
@@ -12,15 +11,17 @@ use std::io::Write;
 pub fn print_statement<W: Write>(output: &mut W, input: &[u8]) -> io::Result<()>
     ensures { OnOk result (Appends (W.contents output.old) (W.contents output.new) (statement_of input.now)) }
 {
-    let mut part = first_part(input);
+    let mut from = match begin(input) {
+        Ok(reached) => reached,
+        Err(refused) => return writeln!(output, "{refused}"),
+    };
+    // No `for`: each part is made of the place that the one before reached.
     loop {
-        let text = part.text;
-        print(output, text)?;
-        if !part.more {
-            return Ok(());
+        let part = next_part(input, from);
+        output.write_all(part.text.as_slice())?;
+        match part.next {
+            Some(reached) => from = reached,
+            None => return Ok(()),
         }
-        let next = part.next;
-        let following = next_part(input, next);
-        part = following;
     }
 }

@@ -1,28 +1,15 @@
-// Texts, numbers and digests in print, and parts of a byte string.
-ghost use Rattle.std.specs.Prelude.{◌≡◌, ◌-◌, ◌≤◌, length};
+// Bytes in print.
+use std::fmt;
 
-use std::io;
+// Bytes that are shown as two hexadecimal digits each. `signings` has the same ten lines: in a library they would want a definition and edits, for two programs of tests.
+#[derive(Clone, Copy)]
+pub struct Hex<'a>(pub &'a [u8]);
 
-// The bytes of m from one place up to another.
-pub fn part(m: &[u8], from: usize, to: usize) -> &[u8]
-    requires { (from ≤ to) × (to ≤ length m.now) }
-    ensures { length result.now ≡ to - from }
-{
-    &m[from..to]
-}
-
-pub fn print_text(rt: &impl Print, words: &str) -> io::Result<()> {
-    rt.print(words)
-}
-
-pub fn print_number(rt: &impl Print, n: u64) -> io::Result<()> {
-    rt.print(n)
-}
-
-pub fn print_digest(rt: &impl Print, digest: [u8; 32]) -> io::Result<()> {
-    for i in 0..32 {
-        let byte = digest[i];
-        print!(rt; "{byte:02x}")?;
+impl fmt::Display for Hex<'_> {
+    fn fmt<W: fmt::Write>(&self, f: &mut fmt::Formatter<W>) -> fmt::Result {
+        for byte in self.0 {
+            write!(f, "{byte:02x}")?;
+        }
+        Ok(())
     }
-    print_text(rt, "\n")
 }

@@ -1,137 +1,115 @@
 // The signature check, over rows from standard input: each a key, a message and a signature with two bytes of length before each.
 // The first row is of RFC 8554, over a tree of height 5, and is printed stage by stage.
-ghost use Rattle.std.specs.Prelude.{◌+◌, ◌<◌, ◌≤◌, length};
+ghost use Rattle.std.specs.Prelude.{◌<◌, ◌≤◌, length, IfSome};
 
-use crate::print::{part, print_digest, print_number, print_text};
+use crate::print::Hex;
+use lms::{Outcome, Place};
 use std::io;
 use std::io::Read;
-use streams::read_full;
-use wire::{digest_at, id_at, u16_at, u32_at, wide};
+use streams::{field, read_full};
+use wire::{array_at, u32_at};
 
-// The place of a field's bytes; both 0 where there is no field.
-#[derive(Drop)]
-struct Span {
-    start: usize,
-    end: usize,
+// What a row holds.
+#[derive(Clone, Copy)]
+struct Row<'a> {
+    key: &'a [u8],
+    message: &'a [u8],
+    signature: &'a [u8],
+}
+
+// The row at the start of m, and what stands behind it.
+fn next_row(m: &[u8]) -> Option<(Row<'_>, &[u8])>
+    ensures { IfSome result (λ r. length r.1.now < length m.now) }
+{
+    let (key, rest) = field(m)?;
+    let (message, rest) = field(rest)?;
+    let (signature, rest) = field(rest)?;
+    Some((
+        Row {
+            key,
+            message,
+            signature,
+        },
+        rest,
+    ))
 }
 
 // The root of a tree of height 5, up the path from a leaf.
-fn root(id: [u8; 16], leaf: u32, key: [u8; 32], signature: &[u8]) -> [u8; 32]
-    requires { (leaf < 32) × (1292 ≤ length signature.now) }
+fn root(leaf: Place, key: [u8; 32], signature: &[u8]) -> [u8; 32]
+    requires { (leaf.number < 32) × (1292 ≤ length signature.now) }
 {
-    let mut node = 32 + leaf;
-    let mut value = lms::leaf_node(id, node, key);
+    let id = leaf.id;
+    let mut node = Place {
+        id,
+        number: 32 + leaf.number,
+    };
+    let mut value = lms::leaf_node(node, key);
+    // i is the height, and the sibling's place.
     for i in 0..5 {
-        let above = lms::parent(id, node, value, digest_at(signature, 1132 + 32 * i));
-        value = above;
-        node = node / 2;
+        let over = lms::parent(node, value, array_at(signature, 1132 + 32 * i));
+        value = over;
+        node.number /= 2;
     }
     value
 }
 
 // The leaf key, the steps to it and the root that a signature over a tree of height 5 comes to.
-fn print_stages(rt: &impl Print, key: &[u8], message: &[u8], signature: &[u8]) -> io::Result<()> {
-    if key.len() < 24 {
+fn print_stages(rt: &impl Print, row: Row<'_>) -> io::Result<()> {
+    let Row {
+        key,
+        message,
+        signature,
+    } = row;
+    if key.len() < 24 || 1024 < message.len() || signature.len() < 1292 {
         return Ok(());
     }
-    if 1024 < message.len() {
+    let number = u32_at(signature, 0);
+    if 31 < number {
         return Ok(());
     }
-    if signature.len() < 1292 {
-        return Ok(());
-    }
-    let leaf = u32_at(signature, 0);
-    if 31 < leaf {
-        return Ok(());
-    }
-    let id = id_at(key, 8);
-    let hash = lms::message_hash(id, leaf, digest_at(signature, 8), message);
-    let walked = lms::leaf_key(id, leaf, hash, signature);
+    let id = array_at(key, 8);
+    let leaf = Place { id, number };
+    let hash = lms::message_hash(leaf, array_at(signature, 8), message);
+    let walked = lms::leaf_key(leaf, hash, signature);
     let end = walked.key;
-    let top = root(id, leaf, end, signature);
-    print_text(rt, "leaf key ")?;
-    print_digest(rt, end)?;
-    print_text(rt, "steps ")?;
-    print_number(rt, walked.steps as u64)?;
-    print_text(rt, "\nroot ")?;
-    print_digest(rt, top)
+    let top = root(leaf, end, signature);
+    println!(rt;
+        "leaf key {}\nsteps {}\nroot {}",
+        Hex(&end),
+        walked.steps,
+        Hex(&top)
+    )
 }
 
 // The refusal, the verdict, the steps and the leaf of a check.
-fn print_check(rt: &impl Print, key: &[u8], message: &[u8], signature: &[u8]) -> io::Result<()> {
-    let checked = lms::check(key, message, signature);
-    print_number(rt, checked.refusal as u64)?;
-    if checked.verdict {
-        print_text(rt, " yes ")?;
-    } else {
-        print_text(rt, " no ")?;
+fn print_check(rt: &impl Print, row: Row<'_>) -> io::Result<()> {
+    match lms::check(row.key, row.message, row.signature) {
+        Ok(
+            Outcome {
+                steps,
+                leaf: Some(leaf),
+            },
+        ) => println!(rt; "0 yes {steps} leaf {leaf}"),
+        Ok(Outcome { steps, leaf: None }) => println!(rt; "0 no {steps} leaf 0"),
+        Err(refusal) => println!(rt; "{} no 0 leaf 0", u32::from(refusal)),
     }
-    print_number(rt, checked.steps as u64)?;
-    print_text(rt, " leaf ")?;
-    print_number(rt, checked.leaf as u64)?;
-    print_text(rt, "\n")
-}
-
-// The field at a place of m.
-fn field(m: &[u8], at: usize) -> Span
-    ensures { (result.start ≤ result.end) × (result.end ≤ length m.now) }
-{
-    let none = Span { start: 0, end: 0 };
-    let n = m.len();
-    if n < 2 {
-        return none;
-    }
-    if n - 2 < at {
-        return none;
-    }
-    let size = u16_at(m, at) as usize;
-    let start = at + 2;
-    if n - start < size {
-        return none;
-    }
-    Span {
-        start: start,
-        end: start + size,
-    }
-}
-
-// Prints the row at a place of m, and answers where it ends; 0 where there is no whole row.
-fn print_row(rt: &impl Print, m: &[u8], number: u64, at: usize) -> io::Result<usize> {
-    let key = field(m, at);
-    if key.start == 0 {
-        return Ok(0);
-    }
-    let message = field(m, key.end);
-    if message.start == 0 {
-        return Ok(0);
-    }
-    let signature = field(m, message.end);
-    if signature.start == 0 {
-        return Ok(0);
-    }
-    let k = part(m, key.start, key.end);
-    let text = part(m, message.start, message.end);
-    let s = part(m, signature.start, signature.end);
-    if number == 0 {
-        print_stages(rt, k, text, s)?;
-    } else {
-        print_number(rt, number)?;
-        print_text(rt, " ")?;
-        print_check(rt, k, text, s)?;
-    }
-    Ok(signature.end)
 }
 
 // Prints each row of m, and answers whether m is whole rows to its end.
 fn print_rows(rt: &impl Print, m: &[u8]) -> io::Result<bool> {
-    let mut at = 0;
+    let mut rest = m;
     let mut number: u64 = 0;
-    while at < m.len() {
-        let next = print_row(rt, m, number, at)?;
-        if next <= at {
+    while !rest.is_empty() {
+        let Some((row, behind)) = next_row(rest) else {
             return Ok(false);
+        };
+        if number == 0 {
+            print_stages(rt, row)?;
+        } else {
+            print!(rt; "{number} ")?;
+            print_check(rt, row)?;
         }
-        at = next;
+        rest = behind;
         number += 1;
     }
     Ok(true)
@@ -141,12 +119,8 @@ fn print_rows(rt: &impl Print, m: &[u8]) -> io::Result<bool> {
 fn print_steps(rt: &impl Print, first: u8, other: u8) -> io::Result<()> {
     let mut hash = [other; 32];
     hash[0] = first;
-    let sum = wide(first) + 31 * wide(other);
-    print_text(rt, "sum ")?;
-    print_number(rt, sum as u64)?;
-    print_text(rt, " steps ")?;
-    print_number(rt, lms::step_count(hash) as u64)?;
-    print_text(rt, "\n")
+    let sum = u32::from(first) + 31 * u32::from(other);
+    println!(rt; "sum {sum} steps {}", lms::step_count(hash))
 }
 
 // Every row, and the steps of hashes at the edges.
@@ -154,10 +128,9 @@ pub fn print_all(rt: &impl Print, input: &mut impl Read) -> io::Result<()> {
     let mut bytes = [0u8; 65536];
     let n = read_full(input, &mut bytes);
     if print_rows(rt, &bytes[..n])? {
-        print_steps(rt, 255, 255)?;
-        print_steps(rt, 0, 0)?;
-        print_steps(rt, 224, 0)?;
-        print_steps(rt, 225, 0)?;
+        for (first, other) in [(255, 255), (0, 0), (224, 0), (225, 0)] {
+            print_steps(rt, first, other)?;
+        }
     }
     Ok(())
 }

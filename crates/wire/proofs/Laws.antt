@@ -1,14 +1,16 @@
 -- Laws of truth values, of copies, of equal byte strings, of numbers in them and of arrays.
 use Prim.Native.Nat.{ℕ, suc, zero, ◌+◌, ◌-◌, ◌*◌, ◌^◌, ◌≤◌, ◌<◌}
-use native.Mathlib.Nat.{add-sub_cancel_left}
+use native.Mathlib.Nat.{add-sub_cancel_left, add-zero, add_assoc}
 use native.Mathlib.Omega.{arith}
 use mathlib.Core.Path.{◌≡◌, refl, sym, ap, ◌∙◌}
 use mathlib.Core.Bool.{Bool, true, false, true≢false, false≢true, ◌&&◌, ◌||◌, and-true, and_assoc}
 use mathlib.Core.List.{List, [], ◌∷◌, ◌++◌, append-nil, map}
 use lib.Dec.{eqb}
+use lib.Pointwise.{pointwise}
+use Rattle.std.specs.Prelude.{slice_index, nat_eq}
 use borrow.Author.Tests.{eq-eqb}
-use lib.ListN.{length, take, get_or, drop_of_length-le, length-take, length-drop, length-map, get_or-append}
-use lib.Seq.{paste, take-length, get_or-append-add}
+use lib.ListN.{length, take, drop, get_or, drop_of_length-le, length-take, length-drop, length-map, get_or-append}
+use lib.Seq.{paste, take-length, get_or-append-add, get_or-take, get_or-drop}
 use Rattle.wire.specs.Numbers.{bytes, u32_at}
 use Rattle.wire.specs.Parts.{part, same}
 
@@ -95,3 +97,21 @@ unfolding u32_at
 u32_behind a b n k l = four _ _ _ _ _ _ _ _ (at (n + k) k (omega arith)) (at (n + k + 1) (k + 1) (omega arith)) (at (n + k + 2) (k + 2) (omega arith)) (at (n + k + 3) (k + 3) (omega arith)) where
   at : (i j : ℕ) → i ≡ length a + j → get_or (a ++ b) i 0 ≡ get_or b j 0
   at i j e = ap (λ (m : ℕ). get_or (a ++ b) m 0) e ∙ get_or-append-add a b j 0
+
+-- A byte of a part, by its place in the whole.
+pub in_part : (r s : List ℕ) (at n i : ℕ) → r ≡ part s at n → i < n → slice_index r i ≡ get_or s (at + i) 0
+in_part r s at n i e h = ap (λ (l : List ℕ). get_or l i 0) e ∙ get_or-take n (drop at s) i 0 h ∙ get_or-drop at s i 0
+
+pub at_part : (r s : List ℕ) (at n : ℕ) → r ≡ part s at n → 0 < n → slice_index r 0 ≡ get_or s at 0
+at_part r s at n e h = in_part r s at n 0 e h ∙ ap (λ (i : ℕ). get_or s i 0) (add-zero at)
+
+pub further_part : (r s : List ℕ) (at n i k : ℕ) → r ≡ part s at n → i + k < n → slice_index r (i + k) ≡ get_or s (at + i + k) 0
+further_part r s at n i k e h = in_part r s at n (i + k) e h ∙ ap (λ (j : ℕ). get_or s j 0) (sym (add_assoc at i k))
+
+-- The test of the library's arrays.
+pub same_pointwise : (a b : List ℕ) → pointwise nat_eq a b ≡ same a b
+unfolding same
+same_pointwise [] [] = refl
+same_pointwise [] (y ∷ ys) = refl
+same_pointwise (x ∷ xs) [] = refl
+same_pointwise (x ∷ xs) (y ∷ ys) = ap (λ (t : Bool). eqb x y && t) (same_pointwise xs ys)

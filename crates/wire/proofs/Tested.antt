@@ -7,8 +7,14 @@ use native.Mathlib.Numerals.{add-one}
 use native.Mathlib.Omega.{arith}
 use lib.ListN.{length, take, get_or}
 use lib.Seq.{take_all}
+use Rattle.std.specs.List.{list_all}
 use Rattle.wire.specs.Parts.{all}
 use Rattle.wire.proofs.Laws.{and_both}
+
+-- The library's test.
+pub list_all_is_all : {A : Type 0} (p : A → Bool) (l : List A) → list_all p l ≡ all p l
+list_all_is_all p [] = refl
+list_all_is_all p (x ∷ l) = ap (λ (t : Bool). p x && t) (list_all_is_all p l)
 
 -- It holds at any place: past the end the default stands in.
 pub all_at : {A : Type 0} (p : A → Bool) (l : List A) (i : ℕ) (d : A) → p d ≡ true → all p l ≡ true → p (get_or l i d) ≡ true

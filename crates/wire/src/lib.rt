@@ -4,7 +4,5 @@
 mod numbers;
 mod parts;
 
-pub use numbers::{
-    first_byte, fourth_byte, second_byte, third_byte, u16_at, u32_at, u32_bytes, u64_at, wide,
-};
-pub use parts::{copy_into, digest_at, id_at, key_at, same_digest, same_key};
+pub use numbers::{u16_at, u32_at, u32_bytes, u64_at};
+pub use parts::{array_at, copy_into, same};

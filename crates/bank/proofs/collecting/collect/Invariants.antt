@@ -1,9 +1,7 @@
--- Before each turn: how far it has come, and what the list holds there; the turns left fall.
-use Rattle.bank.proofs.CollectState.{Place, left}
+-- Before each turn: what the list holds, and the payments that are left.
+use Rattle.bank.specs.Left.{left}
+use Rattle.bank.proofs.Storing.{Stored}
 use Rattle.bank.proofs.collecting.collect.Given as goal
 
-abbrev pub invariant-loop-turn : goal.invariant-loop-turn
-invariant-loop-turn l = Place l.commands l.lines l.fn.list l.walk l.list
-
-abbrev pub decreases-loop-turn : goal.decreases-loop-turn
-decreases-loop-turn l = left l.commands l.lines l.fn.list l.walk
+abbrev pub invariant-loop-i : goal.invariant-loop-i
+invariant-loop-i l = Stored l.commands l.lines l.fn.list l.list l.i-iterator.count (left l.i-iterator.iter)

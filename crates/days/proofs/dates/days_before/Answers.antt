@@ -4,5 +4,5 @@ use Rattle.days.proofs.dates.days_before.Goals as goal
 pub returns-then-month-is_leap-clause-value : goal.returns-then-month-is_leap-clause-value
 returns-then-month-is_leap-clause-value c = after_leap_day _ _ c.is_leap.ensures _ c.requires c.if-month-is_leap.true
 
-pub returns-clause-value : goal.returns-clause-value
-returns-clause-value c = no_leap_day _ _ c.is_leap.ensures _ c.requires c.if-month-is_leap.false
+pub returns-else-month-is_leap-clause-value : goal.returns-else-month-is_leap-clause-value
+returns-else-month-is_leap-clause-value c = no_leap_day _ _ c.is_leap.ensures _ c.requires c.if-month-is_leap.false

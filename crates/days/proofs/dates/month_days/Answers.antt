@@ -1,12 +1,10 @@
-use Rattle.std.proofs.Common.{arith, sym}
-use Rattle.calendar.proofs.Counting.{no_month, february, other_month}
+use Rattle.calendar.specs.Calendar.{month_days}
 use Rattle.days.proofs.dates.month_days.Goals as goal
 
-pub returns-then-month-gt12 : goal.returns-then-month-gt12
-returns-then-month-gt12 c = sym (no_month _ _ c.if-month-gt12.true)
+pub returns-in-2 : goal.returns-in-2
+unfolding month_days
+returns-in-2 c = rw (c.in-2.is, ← c.is_leap.ensures, c.if-is_leap.true)
 
-pub returns-then-month-is_leap : goal.returns-then-month-is_leap
-returns-then-month-is_leap c = february _ _ c.is_leap.ensures _ (omega arith) c.if-month-is_leap.true
-
-pub returns : goal.returns
-returns c = other_month _ _ c.is_leap.ensures _ (omega arith) c.if-month-is_leap.false
+pub returns-in-2-2 : goal.returns-in-2-2
+unfolding month_days
+returns-in-2-2 c = rw (c.in-2.is, ← c.is_leap.ensures, c.if-is_leap.false)

@@ -1,15 +1,10 @@
--- After i turns the row from number i on is still to be written.
-use Rattle.std.proofs.Common.{◌≡◌, ◌+◌, ◌*◌, ◌-◌, ◌≤◌, length, drop}
-use Rattle.wire.proofs.Pasting.{Towards}
-use Rattle.decimals.specs.Numbers.{row}
+-- After some turns the numbers so far are written, each with a blank after it.
+use Rattle.std.proofs.Common.{◌≡◌, ◌+◌, ◌*◌, ◌≤◌, ◌++◌, take}
+use Rattle.arrayvec.specs.ArrayVec.{array_vec_len}
+use Rattle.decimals.proofs.Rows.{blanked}
 use Rattle.decimals.proofs.numbers.put_row.Given as goal
 
-abbrev pub invariant-loop-i : goal.invariant-loop-i
-invariant-loop-i l =
-    (l.i ≤ length l.numbers)
-    × (l.place ≤ l.at + 21 * l.i)
-    × (length l.out ≡ length l.initial.out)
-    × Towards l.initial.out l.at (row l.numbers) l.out l.place (row (drop l.i l.numbers))
-
-abbrev pub decreases-loop-i : goal.decreases-loop-i
-decreases-loop-i l = length l.numbers - l.i
+abbrev pub invariant-loop-n : goal.invariant-loop-n
+invariant-loop-n g l =
+    (l.out.items ≡ l.initial.out.items ++ blanked (take l.n-index l.others))
+    × (array_vec_len l.out ≤ array_vec_len l.initial.out + 21 * l.n-index)

@@ -1,11 +1,11 @@
--- Each string is the definition's.
-use Rattle.std.proofs.Common.{◌≡◌, refl, ℕ, List, ◌∷◌}
+use Rattle.std.proofs.Common.{ℕ, ◌+◌, ◌*◌, List, [], rules}
+use Rattle.std.proofs.lemmas.List.FromFn.{fill_by_all}
+use Rattle.wire.specs.Parts.{part}
+use Rattle.lms.proofs.Made.{made_at}
 use Rattle.lms.proofs.layout.path_of.Goals as goal
-
--- Two lists of byte strings, head and tail.
-both : {x y : List ℕ} {xs ys : List (List ℕ)} → x ≡ y → xs ≡ ys → x ∷ xs ≡ y ∷ ys
-both p q = cc
 
 pub returns : goal.returns
 returns c =
-    both c.digest_at.ensures (both c.digest_at-2.ensures (both c.digest_at-3.ensures (both c.digest_at-4.ensures (both c.digest_at-5.ensures (both c.digest_at-6.ensures (both c.digest_at-7.ensures (both c.digest_at-8.ensures (both c.digest_at-9.ensures (both c.digest_at-10.ensures refl)))))))))
+    let made = c.from_fn.ensures.items in
+    let want : ℕ → List ℕ = λ i. part c.args.signature.now (1132 + 32 * i) 32 in
+    fill_by_all want _ 10 [] made.long (made_at _ _ want _ [] (λ i y q k. search rules) 10 made)

@@ -1,7 +1,11 @@
--- After i turns the value is the one i levels above the start.
+-- After so many siblings the value is the one as many levels above the start.
 use Rattle.std.proofs.Common.{◌≡◌, ◌/◌, ◌^◌}
 use Rattle.lms.specs.Tree.{climb}
 use Rattle.lms.proofs.tree.climbed.Given as goal
 
-abbrev pub invariant-loop-i : goal.invariant-loop-i
-invariant-loop-i l = (l.node ≡ l.start / 2 ^ l.i) × (l.value ≡ climb l.id l.start l.initial.value l.path l.i)
+abbrev pub invariant-loop-sibling : goal.invariant-loop-sibling
+invariant-loop-sibling l = record {
+  same : l.node.id ≡ l.fn.start.id;
+  node : l.node.number ≡ l.fn.start.number / 2 ^ l.sibling-index;
+  value : l.value ≡ climb l.fn.start.id l.fn.start.number l.fn.leaf l.fn.path l.sibling-index;
+}

@@ -1,10 +1,16 @@
-use Rattle.std.proofs.Common.{arith, ◌∙◌}
-use Rattle.wire.proofs.Tested.{all_map, tested_whole}
+use Rattle.std.proofs.Common.{rules, tests, Bool, List, ℕ, ◌∙◌}
+use Rattle.std.proofs.lemmas.Iterator.{YieldsList-from_slice}
+use Rattle.std.proofs.lemmas.Iterator.Search.{all_from_yields_List}
+use Rattle.wire.proofs.Tested.{all_map}
 use Rattle.payments.specs.Payments.{payment_of}
 use Rattle.payments.specs.Answers.{writable}
-use Rattle.payments.proofs.writing.all_writable.Invariants.{fits}
+use Rattle.wire.proofs.Tested.{list_all_is_all}
 use Rattle.payments.proofs.writing.all_writable.Goals as goal
+
+abbrev fits : List ℕ → Bool
+fits e = writable (payment_of e)
 
 pub returns : goal.returns
 returns c =
-    tested_whole fits c.args.list.now c.loop-i.ok c.loop-i.i c.loop-i.invariant.1 (omega arith) ∙ all_map payment_of writable c.args.list.now
+    let l = c.args.list.now in
+    all_from_yields_List fits _ _ _ c.all.ensures.ran (YieldsList-from_slice l cc) (λ x b q k. search (rules, tests)) ∙ list_all_is_all fits l ∙ all_map payment_of writable l

@@ -1,35 +1,33 @@
-use Rattle.std.proofs.Common.{ap, ◌∙◌, arith, drop}
-use Rattle.journal.specs.Runs.{Done}
-use Rattle.report.specs.Parts.{ran_from, next_part}
-use Rattle.report.proofs.Going.{same_run, same_ran, ran_bounds, made}
+use Rattle.std.proofs.Common.{◌∙◌, sym, arith, length-drop, length-take}
+use Rattle.report.proofs.Going.{runs, made_more, made_last}
 use Rattle.report.proofs.parts.next_part.Goals as goal
 
 pub overflow_add-used : goal.overflow_add-used
 overflow_add-used c =
-    let a = c.args in
-    let r = c.run_of-done in
-    let e = same_ran a.input.now a.from _ r.result.ran c.no_lines.ensures.0 r.ensures.0 in
-    omega (arith, ran_bounds a.input.now a.from r.result.ran e (omega arith))
+    let k = runs c.args.input.now c.args.from _ _ _ _ (omega arith) c.no_lines-lines.ensures c.run-ran.ensures in
+    omega (arith, k.bytes, length-drop 16 c.args.input.now)
 
-pub run_text-text-requires : goal.run_text-text-requires
-run_text-text-requires c =
-    let a = c.args in
-    let r = c.run_of-done in
-    let e = same_ran a.input.now a.from _ r.result.ran c.no_lines.ensures.0 r.ensures.0 in
-    ((ran_bounds a.input.now a.from r.result.ran e (omega arith)).0, omega arith)
+pub slice_bounds-lines-end : goal.slice_bounds-lines-end
+slice_bounds-lines-end c =
+    let k = runs c.args.input.now c.args.from _ _ _ _ (omega arith) c.no_lines-lines.ensures c.run-ran.ensures in
+    omega (arith, k.lines, k.lent)
 
-pub overflow_add-next : goal.overflow_add-next
-overflow_add-next c =
-    let a = c.args in
-    let r = c.run_of-done in
-    let e = same_ran a.input.now a.from _ r.result.ran c.no_lines.ensures.0 r.ensures.0 in
-    omega (arith, ran_bounds a.input.now a.from r.result.ran e (omega arith))
+pub slice_bounds-put_lines-end : goal.slice_bounds-put_lines-end
+slice_bounds-put_lines-end c =
+    let k = runs c.args.input.now c.args.from _ _ _ _ (omega arith) c.no_lines-lines.ensures c.run-ran.ensures in
+    omega (arith, k.lines, k.lent, length-take c.run-ran.result.lines c.run-ran.new.lines)
+
+pub overflow_add-number : goal.overflow_add-number
+overflow_add-number c =
+    let k = runs c.args.input.now c.args.from _ _ _ _ (omega arith) c.no_lines-lines.ensures c.run-ran.ensures in
+    omega (arith, k.each, k.bytes, length-drop 16 c.args.input.now)
+
+pub returns-then-ran-from : goal.returns-then-ran-from
+returns-then-ran-from c =
+    let k = runs c.args.input.now c.args.from _ _ _ _ (omega arith) c.no_lines-lines.ensures c.run-ran.ensures in
+    made_more _ _ _ _ _ _ k (c.if-ran-from.true ∙ c.from.ensures) (rw c.new-text.ensures at c.put_lines.ensures.text)
 
 pub returns : goal.returns
-unfolding next_part
 returns c =
-    let a = c.args in
-    let r = c.run_of-done in
-    let run = same_run a.input.now a.from _ c.no_lines.ensures.0 in
-    let e = same_ran a.input.now a.from _ r.result.ran c.no_lines.ensures.0 r.ensures.0 in
-    made (ran_from (drop 16 a.input.now) a.from) a.from _ _ _ _ e (r.ensures.1 ∙ ap (λ (d : Done). d.book) run) (r.ensures.2 ∙ ap (λ (d : Done). d.lines) run) c.run_text-text.ensures
+    let k = runs c.args.input.now c.args.from _ _ _ _ (omega arith) c.no_lines-lines.ensures c.run-ran.ensures in
+    made_last _ _ _ _ _ _ k (λ e. c.if-ran-from.false (e ∙ sym c.from.ensures)) (rw (c.put_lines.ensures.text, c.new-text.ensures) at c.put_end.ensures)

@@ -1,11 +1,18 @@
--- Each byte is the definition's.
-use Rattle.std.proofs.Common.{refl}
+use Rattle.std.proofs.Common.{◌≡◌, sym, ◌∙◌, arith}
+use Rattle.std.proofs.lemmas.List.{take_all}
 use Rattle.wire.specs.Numbers.{bytes}
 use Rattle.sha256.specs.Digest.{digest_of}
-use Rattle.wire.proofs.Laws.{both}
+use Rattle.sha256.proofs.Laws.{word_more}
 use Rattle.sha256.proofs.bytes.digest.Goals as goal
+
+pub loop-i-preserved : goal.loop-i-preserved
+loop-i-preserved c = (
+  omega arith,
+  word_more c.loop-i.out c.copy_into.new.dst _ c.u32_bytes.result c.loop-i.i _ (omega arith) (omega arith) c.loop-i.invariant.1 c.u32_bytes.ensures c.copy_into.ensures,
+)
 
 pub returns : goal.returns
 unfolding digest_of bytes
 returns c =
-    both c.first_byte.ensures (both c.second_byte.ensures (both c.third_byte.ensures (both c.fourth_byte.ensures (both c.first_byte-2.ensures (both c.second_byte-2.ensures (both c.third_byte-2.ensures (both c.fourth_byte-2.ensures (both c.first_byte-3.ensures (both c.second_byte-3.ensures (both c.third_byte-3.ensures (both c.fourth_byte-3.ensures (both c.first_byte-4.ensures (both c.second_byte-4.ensures (both c.third_byte-4.ensures (both c.fourth_byte-4.ensures (both c.first_byte-5.ensures (both c.second_byte-5.ensures (both c.third_byte-5.ensures (both c.fourth_byte-5.ensures (both c.first_byte-6.ensures (both c.second_byte-6.ensures (both c.third_byte-6.ensures (both c.fourth_byte-6.ensures (both c.first_byte-7.ensures (both c.second_byte-7.ensures (both c.third_byte-7.ensures (both c.fourth_byte-7.ensures (both c.first_byte-8.ensures (both c.second_byte-8.ensures (both c.third_byte-8.ensures (both c.fourth_byte-8.ensures refl)))))))))))))))))))))))))))))))
+    let n : c.loop-i.i ≡ 8 = omega arith in
+    sym (take_all 32 c.loop-i.out (omega arith)) ∙ (rw n at c.loop-i.invariant.1)

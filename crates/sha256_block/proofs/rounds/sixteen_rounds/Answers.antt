@@ -1,7 +1,15 @@
--- Each round is the definition's next.
-use Rattle.sha256_block.proofs.Laws.{turn, turned}
+use Rattle.std.proofs.Common.{◌≡◌, length, arith}
+use Rattle.std.proofs.lemmas.List.{take_all}
+use Rattle.sha256_block.proofs.Laws.{more_rounds, turned}
 use Rattle.sha256_block.proofs.rounds.sixteen_rounds.Goals as goal
 
 pub returns : goal.returns
 returns c =
-    turn _ _ _ _ _ c.round-v1.ensures (turn _ _ _ _ _ c.round-v2.ensures (turn _ _ _ _ _ c.round-v3.ensures (turn _ _ _ _ _ c.round-v4.ensures (turn _ _ _ _ _ c.round-v5.ensures (turn _ _ _ _ _ c.round-v6.ensures (turn _ _ _ _ _ c.round-v7.ensures (turn _ _ _ _ _ c.round-v8.ensures (turn _ _ _ _ _ c.round-v9.ensures (turn _ _ _ _ _ c.round-v10.ensures (turn _ _ _ _ _ c.round-v11.ensures (turn _ _ _ _ _ c.round-v12.ensures (turn _ _ _ _ _ c.round-v13.ensures (turn _ _ _ _ _ c.round-v14.ensures (turn _ _ _ _ _ c.round-v15.ensures (turn _ _ _ _ _ c.round.ensures turned)))))))))))))))
+    let k = c.args.k.now in
+    let w = c.args.w.now in
+    let v = c.args.v in
+    let same : length k ≡ length w = omega arith in
+    let four = more_rounds 4 0 k w v v _ same turned c.four_rounds-four.ensures in
+    let eight = more_rounds 4 4 k w v _ _ same four c.four_rounds-eight.ensures in
+    let twelve = more_rounds 4 8 k w v _ _ same eight c.four_rounds-twelve.ensures in
+    rw (take_all 16 k (omega arith), take_all 16 w (omega arith)) at (more_rounds 4 12 k w v _ _ same twelve c.four_rounds.ensures)

@@ -1,7 +1,12 @@
--- Each word is the definition's next.
-use Rattle.sha256_block.proofs.Laws.{more, enough}
+use Rattle.std.proofs.Common.{ℕ, List, ◌++◌, sym, refl, ap, ◌∙◌, append-nil, arith}
+use Rattle.std.proofs.lemmas.List.{take_all}
+use Rattle.sha256_block.specs.Ring.{Ring}
+use Rattle.sha256_block.proofs.Laws.{enough}
 use Rattle.sha256_block.proofs.schedule.next_words.Goals as goal
 
 pub returns : goal.returns
 returns c =
-    more 15 _ _ _ c.next_word-n0.ensures (more 14 _ _ _ c.next_word-n1.ensures (more 13 _ _ _ c.next_word-n2.ensures (more 12 _ _ _ c.next_word-n3.ensures (more 11 _ _ _ c.next_word-n4.ensures (more 10 _ _ _ c.next_word-n5.ensures (more 9 _ _ _ c.next_word-n6.ensures (more 8 _ _ _ c.next_word-n7.ensures (more 7 _ _ _ c.next_word-n8.ensures (more 6 _ _ _ c.next_word-n9.ensures (more 5 _ _ _ c.next_word-n10.ensures (more 4 _ _ _ c.next_word-n11.ensures (more 3 _ _ _ c.next_word-n12.ensures (more 2 _ _ _ c.next_word-n13.ensures (more 1 _ _ _ c.next_word-n14.ensures (more 0 _ _ _ c.next_word-n15.ensures (enough _))))))))))))))))
+    let x = c.args.x in
+    let none : Ring x 0 x = record { made = enough x ∙ sym (append-nil x); left = refl } in
+    let h = c.four_on.ensures x (omega arith) (c.four_on-twelve.ensures x (omega arith) (c.four_on-eight.ensures x (omega arith) (c.four_on-four.ensures x (omega arith) none))) in
+    h.made ∙ ap (λ (l : List ℕ). x ++ l) (take_all 16 c.four_on.result (omega arith))

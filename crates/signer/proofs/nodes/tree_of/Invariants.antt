@@ -4,6 +4,3 @@ use Rattle.signer.proofs.nodes.tree_of.Given as goal
 
 abbrev pub invariant-loop-r : goal.invariant-loop-r
 invariant-loop-r l = Filled l.seed l.id l.nodes l.r
-
-abbrev pub decreases-loop-r : goal.decreases-loop-r
-decreases-loop-r l = l.r

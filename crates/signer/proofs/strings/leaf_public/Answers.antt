@@ -13,13 +13,13 @@ loop-i-init c = none_fed _ _ _ _ c.begun-state.ensures
 pub loop-i-preserved : goal.loop-i-preserved
 loop-i-preserved c =
     let a = c.args in
-    let end = c.chain_string-end.ensures a.id a.leaf (omega arith) c.chain_start-start.ensures in
-    more_fed _ a.leaf (full_end a.seed a.id a.leaf) _ c.loop-i.i _ _ end c.loop-i.invariant (omega arith) c.feed-state.ensures
+    let end = c.chain_string-end.ensures in
+    more_fed _ a.leaf.number (full_end a.seed a.leaf.id a.leaf.number) _ c.loop-i.i _ _ end c.loop-i.invariant (omega arith) c.feed-state.ensures
 
 pub returns : goal.returns
 unfolding leaf_public key_of_ends
 returns c =
     let a = c.args in
     let n : c.loop-i.i ≡ 34 = omega arith in
-    let hash : ℕ → List ℕ = λ k. sha256 (a.id ++ bytes 4 a.leaf ++ bytes 2 0x8080 ++ row (full_end a.seed a.id a.leaf) k) in
+    let hash : ℕ → List ℕ = λ k. sha256 (a.leaf.id ++ bytes 4 a.leaf.number ++ bytes 2 0x8080 ++ row (full_end a.seed a.leaf.id a.leaf.number) k) in
     c.finish.ensures _ c.loop-i.invariant.taken ∙ ap hash n

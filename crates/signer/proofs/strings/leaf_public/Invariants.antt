@@ -4,4 +4,4 @@ use Rattle.signer.specs.Strings.{full_end}
 use Rattle.signer.proofs.strings.leaf_public.Given as goal
 
 abbrev pub invariant-loop-i : goal.invariant-loop-i
-invariant-loop-i l = Fed l.fn.id l.leaf (full_end l.seed l.fn.id l.leaf) l.i l.state
+invariant-loop-i l = Fed l.leaf.id l.leaf.number (full_end l.seed l.leaf.id l.leaf.number) l.i l.state

@@ -1,9 +1,9 @@
--- Each row has a byte or more, so its number is at most its place.
-use Rattle.std.proofs.Common.{length, ◌-◌, ◌≤◌}
+-- Each row has a byte or more, so there are no more rows than bytes.
+use Rattle.std.proofs.Common.{length, ◌+◌, ◌≤◌}
 use Rattle.vectors.proofs.signature.print_rows.Given as goal
 
-abbrev pub invariant-loop-at : goal.invariant-loop-at
-invariant-loop-at g l = l.number ≤ l.at
+abbrev pub invariant-loop-rest : goal.invariant-loop-rest
+invariant-loop-rest g l = l.number + length l.rest ≤ length l.m
 
-abbrev pub decreases-loop-at : goal.decreases-loop-at
-decreases-loop-at g l = length l.m - l.at
+abbrev pub decreases-loop-rest : goal.decreases-loop-rest
+decreases-loop-rest g l = length l.rest

@@ -1,8 +1,7 @@
-use Rattle.std.proofs.Common.{refl}
+use Rattle.std.proofs.Common.{◌∙◌, div-one, refl}
 use Rattle.wire.specs.Numbers.{bytes}
-use Rattle.wire.proofs.Laws.{both}
 use Rattle.wire.proofs.numbers.u32_bytes.Goals as goal
 
 pub returns : goal.returns
 unfolding bytes
-returns c = both c.first_byte.ensures (both c.second_byte.ensures (both c.third_byte.ensures (both c.fourth_byte.ensures refl)))
+returns c = c.to_be_bytes.ensures ∙ rw (div-one c.args.x) refl

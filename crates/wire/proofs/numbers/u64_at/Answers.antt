@@ -1,6 +1,23 @@
-use Rattle.wire.specs.Numbers.{u64_at}
+use Rattle.std.proofs.Common.{◌≡◌, ◌+◌, ℕ, List, arith}
+use Rattle.std.specs.Prelude.{slice_index, get_or}
+use Rattle.wire.specs.Numbers.{u32_at, u64_at}
+use Rattle.wire.specs.Parts.{part}
+use Rattle.wire.proofs.Laws.{at_part, in_part, further_part}
 use Rattle.wire.proofs.numbers.u64_at.Goals as goal
 
 pub returns : goal.returns
-unfolding u64_at
-returns c = cc
+unfolding u32_at u64_at
+returns c =
+    let r : List ℕ = c.array_at.result in
+    let s : List ℕ = c.args.s.now in
+    let at : ℕ = c.args.at in
+    let e : r ≡ part s at 8 = c.array_at.ensures in
+    let p0 : slice_index r 0 ≡ get_or s (at) 0 = at_part r s at 8 e (omega arith) in
+    let p1 : slice_index r 1 ≡ get_or s (at + 1) 0 = in_part r s at 8 1 e (omega arith) in
+    let p2 : slice_index r 2 ≡ get_or s (at + 2) 0 = in_part r s at 8 2 e (omega arith) in
+    let p3 : slice_index r 3 ≡ get_or s (at + 3) 0 = in_part r s at 8 3 e (omega arith) in
+    let p4 : slice_index r 4 ≡ get_or s (at + 4) 0 = in_part r s at 8 4 e (omega arith) in
+    let p5 : slice_index r 5 ≡ get_or s (at + 4 + 1) 0 = further_part r s at 8 4 1 e (omega arith) in
+    let p6 : slice_index r 6 ≡ get_or s (at + 4 + 2) 0 = further_part r s at 8 4 2 e (omega arith) in
+    let p7 : slice_index r 7 ≡ get_or s (at + 4 + 3) 0 = further_part r s at 8 4 3 e (omega arith) in
+    omega (arith, c.from_be_bytes.ensures)

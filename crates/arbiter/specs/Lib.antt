@@ -1,0 +1,3 @@
+-- What the code's results say.
+pub mod Openings
+pub mod Next

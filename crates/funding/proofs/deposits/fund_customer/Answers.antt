@@ -1,9 +1,0 @@
-use Rattle.std.proofs.Common.{◌∙◌}
-use Rattle.machine.specs.Rules.{fund_customer}
-use Rattle.machine.specs.Machine.{ruling}
-use Rattle.funding.proofs.deposits.fund_customer.Goals as goal
-
-pub returns : goal.returns
-unfolding ruling fund_customer
-returns c =
-    c.ruled.ensures ∙ rw (c.tested-j-2.ensures.value, c.tested-j.ensures.value, c.unjudged.ensures.value, c.status_awaiting.ensures)

@@ -1,2 +1,0 @@
--- Laws of cents and of a sound channel's total.
-pub mod WholeSums

@@ -1,8 +1,0 @@
-use Rattle.std.proofs.Common.{length, ◌+◌, ◌<◌, add-one, arith}
-use Rattle.std.proofs.Math.Seq.{paste-suc}
-use Rattle.sha256.proofs.bytes.written.Goals as goal
-
-pub loop-j-preserved : goal.loop-j-preserved
-loop-j-preserved c =
-    let h : c.args.at + c.loop-j.j < length c.args.b = omega arith in
-    (rw (c.loop-j.invariant.0, add-one) (paste-suc c.args.b c.args.at c.args.part.now c.loop-j.j 0 h (omega arith)), omega arith)
