@@ -1,6 +1,8 @@
 -- Rows of numbers, number by number.
-use Rattle.std.proofs.Common.{◌≡◌, ℕ, ◌+◌, ◌<◌, ◌≤◌, List, [], ◌∷◌, ◌++◌, append_assoc, append-nil, add-one, arith, get_or, length, take, refl, sym, ap, ◌∙◌}
+use Rattle.std.proofs.Common.{◌≡◌, ℕ, ◌+◌, ◌<◌, ◌≤◌, List, [], ◌∷◌, ◌++◌, append_assoc, append-nil, add-one, arith, length-append, get_or, length, take, refl, sym, ap, ◌∙◌}
 use Rattle.std.proofs.Math.Seq.{take-suc, take_all}
+use Rattle.wire.specs.Parts.{pasted}
+use Rattle.wire.proofs.Pasting.{length-pasted, pasted_more}
 use Rattle.decimals.specs.Numbers.{decimal, closer, row}
 
 -- Numbers that others follow: each with a blank after it.
@@ -35,3 +37,15 @@ row_last (m ∷ (k ∷ ns)) n = ap (λ (t : List ℕ). decimal m ++ (32 ∷ t)) 
 -- The last number closes the row.
 pub row_closed : (ns all : List ℕ) (n i : ℕ) → all ≡ ns ++ (n ∷ []) → length ns ≤ i → row all ≡ blanked (take i ns) ++ (decimal n ++ (10 ∷ []))
 row_closed ns all n i e h = rw (e, take_all i ns h) (row_last ns n)
+
+-- ---- a row at a place
+
+-- A text, and another where it ends.
+pub put_after : (d out more s t u : List ℕ) (at place next : ℕ) → out ≡ pasted d at s → place ≡ at + length s → more ≡ pasted out place t → next ≡ place + length t
+    → next ≤ length d → u ≡ s ++ t → (length more ≡ length d) × (more ≡ pasted d at u) × (next ≡ at + length u)
+put_after d out more s t u at place next o p m n h e =
+    let b : at + length s ≤ length d = omega arith in
+    let w : pasted out place t ≡ pasted d at (s ++ t) = rw (o, p) (pasted_more d at s t b) in
+    let v : more ≡ pasted d at u = m ∙ w ∙ ap (pasted d at) (sym e) in
+    let l : next ≡ at + length u = omega (arith, ap length e, length-append s t) in
+    (ap length v ∙ length-pasted d at u (omega arith), v, l)

@@ -3,4 +3,4 @@
 
 mod numbers;
 
-pub use numbers::put_row;
+pub use numbers::{push_row, put_row};

@@ -1,13 +1,15 @@
 // Numbers in a row, as text: in decimal, a blank between two, and the byte 0A at the end.
 ghost use Rattle.std.specs.Prelude.{◌≡◌, [], ◌∷◌, ◌++◌, ◌+◌, ◌*◌, ◌≤◌, length};
 ghost use Rattle.arrayvec.specs.ArrayVec.{array_vec_len};
+ghost use Rattle.wire.specs.Parts.{pasted};
 ghost use Rattle.decimals.specs.Numbers.{decimal, row};
 
 use arrayvec::ArrayVec;
+use wire::copy_into;
 
 // Appends n and then the byte that closes it.
 #[tactic(auto, using(crate::proofs::Numerals::decimal_law, std::proofs::Common::append_assoc))]
-fn put_number<const ROOM: usize>(out: &mut ArrayVec<u8, ROOM>, n: u64, close: u8)
+fn push_number<const ROOM: usize>(out: &mut ArrayVec<u8, ROOM>, n: u64, close: u8)
     requires { array_vec_len out.old + 21 ≤ ROOM }
     ensures text { out.new.items ≡ out.old.items ++ (decimal n ++ (close ∷ [])) }
     ensures size { array_vec_len out.new ≤ array_vec_len out.old + 21 }
@@ -21,7 +23,7 @@ fn put_number<const ROOM: usize>(out: &mut ArrayVec<u8, ROOM>, n: u64, close: u8
 
 // Appends a row of numbers.
 #[tactic(auto, using(crate::proofs::Rows::row_closed, crate::proofs::Rows::row_none, crate::proofs::Rows::none_yet, crate::proofs::Rows::blanked_take, std::proofs::Common::append_assoc))]
-pub fn put_row<const ROOM: usize>(out: &mut ArrayVec<u8, ROOM>, numbers: &[u64])
+pub fn push_row<const ROOM: usize>(out: &mut ArrayVec<u8, ROOM>, numbers: &[u64])
     requires { array_vec_len out.old + 21 * length numbers.now ≤ ROOM }
     ensures text { out.new.items ≡ out.old.items ++ row numbers.now }
     ensures size { array_vec_len out.new ≤ array_vec_len out.old + 21 * length numbers.now }
@@ -30,7 +32,35 @@ pub fn put_row<const ROOM: usize>(out: &mut ArrayVec<u8, ROOM>, numbers: &[u64])
         return;
     };
     for n in others {
-        put_number(out, *n, b' ');
+        push_number(out, *n, b' ');
     }
-    put_number(out, *last, b'\n');
+    push_number(out, *last, b'\n');
+}
+
+// Writes n at a place of out, then the byte that closes it, and answers the place after that.
+fn put_number(out: &mut [u8], at: usize, n: u64, close: u8) -> usize
+    requires { at + 21 ≤ length out.old }
+    ensures { (out.new ≡ pasted out.old at (decimal n ++ (close ∷ [])))
+        × (result ≡ at + length (decimal n ++ (close ∷ []))) × (result ≤ at + 21) }
+{
+    let mut text = ArrayVec::<u8, 21>::new();
+    push_number(&mut text, n, close);
+    copy_into(text.as_slice(), out, at);
+    at + text.len()
+}
+
+// Writes a row of numbers at a place of out, and answers the place after it.
+pub fn put_row(out: &mut [u8], at: usize, numbers: &[u64]) -> usize
+    requires { at + 21 * length numbers.now ≤ length out.old }
+    ensures { (out.new ≡ pasted out.old at (row numbers.now))
+        × (result ≡ at + length (row numbers.now)) × (result ≤ at + 21 * length numbers.now) }
+{
+    let Some((last, others)) = numbers.split_last() else {
+        return at;
+    };
+    let mut place = at;
+    for n in others {
+        place = put_number(out, place, *n, b' ');
+    }
+    put_number(out, place, *last, b'\n')
 }

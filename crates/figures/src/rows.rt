@@ -3,7 +3,7 @@ ghost use Rattle.std.specs.Prelude.{◌<◌, ◌≤◌, IfSome, length};
 
 use crate::book::overwrite;
 use crate::lines::{print_answer, print_due, print_opened, print_reading};
-use arbiter::{Book, Settings};
+use arbiter::{Book, Refusal, Settings};
 use arrayvec::ArrayVec;
 use std::io;
 use streams::field;
@@ -64,13 +64,40 @@ fn settings_in(bytes: &[u8], dated: bool) -> Settings
     }
 }
 
+// An opening by value: a refused one leaves the book that stood there.
+fn put_opened(
+    rt: &impl Print,
+    book: &mut Book,
+    opened: Result<Book, Refusal>,
+) -> io::Result<()> {
+    let told = match opened {
+        Ok(fresh) => {
+            *book = fresh;
+            Ok(())
+        }
+        Err(refusal) => Err(refusal),
+    };
+    print_opened(rt, told)
+}
+
+// The row's bytes as a command, on the book by value.
+fn command_row(rt: &impl Print, book: &mut Book, bytes: &[u8]) -> io::Result<()> {
+    let stepped = arbiter::step(*book, bytes);
+    *book = stepped.book;
+    print_answer(rt, stepped.answer)
+}
+
 // An opening with settings and no list of dates: the settings, then the id. A number that is no date stands there unseen.
 fn open_with_row(rt: &impl Print, book: &mut Book, bytes: &[u8]) -> io::Result<()> {
     if bytes.len() < 8 {
         return Ok(());
     }
     let settings = settings_in(bytes, false);
-    print_opened(rt, arbiter::open_with(book, &bytes[8..], settings, &[0]))
+    put_opened(
+        rt,
+        book,
+        arbiter::opened_with(&bytes[8..], settings, &[0]),
+    )
 }
 
 // The numbers of four bytes each, at most 72.
@@ -90,9 +117,10 @@ fn open_dated_row(rt: &impl Print, book: &mut Book, bytes: &[u8]) -> io::Result<
     }
     let settings = settings_in(bytes, true);
     let dates = dates_in(&bytes[24..]);
-    print_opened(
+    put_opened(
         rt,
-        arbiter::open_with(book, &bytes[8..24], settings, dates.as_slice()),
+        book,
+        arbiter::opened_with(&bytes[8..24], settings, dates.as_slice()),
     )
 }
 
@@ -101,17 +129,17 @@ fn reading_row(rt: &impl Print, book: &Book, bytes: &[u8]) -> io::Result<()> {
     if bytes.len() != 2 {
         return Ok(());
     }
-    print_reading(rt, arbiter::read(book, u16_at(bytes, 0) as usize))
+    print_reading(rt, arbiter::read_of(*book, u16_at(bytes, 0) as usize))
 }
 
 // What a row makes of the book.
 fn run_row(rt: &impl Print, book: &mut Book, row: Row<'_>) -> io::Result<()> {
     let bytes = row.bytes;
     match row.kind {
-        Kind::Open => print_opened(rt, arbiter::open(book, bytes)),
-        Kind::Command => print_answer(rt, arbiter::apply(book, bytes)),
+        Kind::Open => put_opened(rt, book, arbiter::opened(bytes)),
+        Kind::Command => command_row(rt, book, bytes),
         Kind::Reading => reading_row(rt, book, bytes),
-        Kind::Due => print_due(rt, arbiter::due(book)),
+        Kind::Due => print_due(rt, arbiter::due_of(*book)),
         Kind::OpenWith => open_with_row(rt, book, bytes),
         Kind::OpenDated => open_dated_row(rt, book, bytes),
         Kind::Again | Kind::Write => {

@@ -1,5 +1,5 @@
 -- Printing a statement: what is left of it before each part.
-use Rattle.std.proofs.Common.{◌≡◌, ℕ, ◌+◌, ◌-◌, ◌≤◌, ◌<◌, Bool, true, false, cond, List, [], ◌∷◌, ◌++◌, Ok, Err, Some, None, length, drop, ltb, eqb, sym, ap, ◌∙◌, refl, append_assoc, arith}
+use Rattle.std.proofs.Common.{◌≡◌, ℕ, ◌+◌, ◌-◌, ◌≤◌, ◌<◌, Bool, true, false, cond, List, [], ◌∷◌, ◌++◌, Ok, Err, Continue, Break, length, drop, ltb, eqb, sym, ap, ◌∙◌, refl, append_assoc, arith}
 use borrow.Author.Tests.{eqb-true, eqb-false, ltb-false}
 use lib.ListN.{length-drop}
 use mathlib.Core.Bool.{true≢false, false≢true}
@@ -79,23 +79,23 @@ module _ (input said : List ℕ) (x : Reached) (a : Ahead input said x) where
         omega arith,
       )
 
-  follows_by : (m : Bool) (y : Reached) → eqb d.cause 13 ≡ m → cond m (Some q.next) None ≡ Some y → Ahead input (said ++ shown q.text) y × (x.used < y.used)
+  follows_by : (m : Bool) (y : Reached) → eqb d.cause 13 ≡ m → cond m (Continue q.next) (Break q.next) ≡ Continue y → Ahead input (said ++ shown q.text) y × (x.used < y.used)
   follows_by true y m e = let n : y ≡ q.next = cc in rw n (follows (eqb-true d.cause 13 m))
   follows_by false y m e = cc
 
-  pub next_ahead : (p : Handed) (y : Reached) → p ≡ handed q → p.next ≡ Some y → Ahead input (said ++ p.text.items) y × (x.used < y.used)
+  pub next_ahead : (p : Handed) (y : Reached) → p ≡ handed q → p.next ≡ Continue y → Ahead input (said ++ p.text.items) y × (x.used < y.used)
   unfolding next_part
   next_ahead p y h e =
       let t : p.text.items ≡ shown q.text = ap (λ (p : Handed). p.text.items) h in
       rw t (follows_by (eqb d.cause 13) y refl (sym (ap (λ (p : Handed). p.next) h) ∙ e))
 
-  last_by : (m : Bool) → eqb d.cause 13 ≡ m → cond m (Some q.next) None ≡ None → said ++ shown q.text ≡ statement_of input
-  last_by true m e = cc
-  last_by false m e = ap (λ (t : List ℕ). said ++ t) (last_text (length cs) cs x fits (eqb-false d.cause 13 m)) ∙ a.all
+  last_by : (m : Bool) (y : Reached) → eqb d.cause 13 ≡ m → cond m (Continue q.next) (Break q.next) ≡ Break y → said ++ shown q.text ≡ statement_of input
+  last_by true y m e = cc
+  last_by false y m e = ap (λ (t : List ℕ). said ++ t) (last_text (length cs) cs x fits (eqb-false d.cause 13 m)) ∙ a.all
 
   -- With the last part all is said.
-  pub all_said : (p : Handed) → p ≡ handed q → p.next ≡ None → said ++ p.text.items ≡ statement_of input
+  pub all_said : (p : Handed) (y : Reached) → p ≡ handed q → p.next ≡ Break y → said ++ p.text.items ≡ statement_of input
   unfolding next_part
-  all_said p h e =
+  all_said p y h e =
       let t : p.text.items ≡ shown q.text = ap (λ (p : Handed). p.text.items) h in
-      rw t (last_by (eqb d.cause 13) refl (sym (ap (λ (p : Handed). p.next) h) ∙ e))
+      rw t (last_by (eqb d.cause 13) y refl (sym (ap (λ (p : Handed). p.next) h) ∙ e))

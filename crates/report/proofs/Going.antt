@@ -3,7 +3,7 @@ use Prim.Native.Nat.{ℕ, ◌+◌, ◌-◌, ◌≤◌, ◌<◌}
 use native.Mathlib.Omega.{arith}
 use mathlib.Core.Path.{◌≡◌, sym, ap, ◌∙◌}
 use mathlib.Core.List.{List, ◌++◌, append-nil}
-use Rattle.std.proofs.Common.{Some, None}
+use Rattle.std.proofs.Common.{Continue, Break}
 use borrow.Author.Tests.{eq-eqb, ne_eqb}
 use Rattle.arrayvec.specs.ArrayVec.{ArrayVec}
 use lib.ListN.{length, take, drop, length-drop, length-replicate}
@@ -87,7 +87,7 @@ text t = record { items = t }
 -- The part that is made of a run: where lines are short others follow, else an end.
 pub made_more : (cs : List ℕ) (x : Reached) (r : Ran) (b : Book) (ls : List Line) (t : ArrayVec ℕ) → Runs cs x r b ls → r.cause ≡ 13
     → t.items ≡ lines_from x.number (take r.lines ls)
-    → ◌≡◌ {A = Handed} (record { text = t; next = Some (record { book = b; used = x.used + r.used; number = x.number + r.lines }) }) (handed (next_part cs x))
+    → ◌≡◌ {A = Handed} (record { text = t; next = Continue (record { book = b; used = x.used + r.used; number = x.number + r.lines }) }) (handed (next_part cs x))
 unfolding next_part text_of
 made_more cs x r b ls t k c e =
     let d : (ran_from cs x).cause ≡ 13 = sym (ap (λ (a : Ran). a.cause) k.ran) ∙ c in
@@ -96,9 +96,9 @@ made_more cs x r b ls t k c e =
 
 pub made_last : (cs : List ℕ) (x : Reached) (r : Ran) (b : Book) (ls : List Line) (t : ArrayVec ℕ) → Runs cs x r b ls → (r.cause ≡ 13 → ⊥)
     → t.items ≡ lines_from x.number (take r.lines ls) ++ end_line (x.used + r.used) r.cause
-    → ◌≡◌ {A = Handed} (record { text = t; next = None }) (handed (next_part cs x))
+    → ◌≡◌ {A = Handed} (record { text = t; next = Break (record { book = b; used = x.used + r.used; number = x.number + r.lines }) }) (handed (next_part cs x))
 unfolding next_part text_of
 made_last cs x r b ls t k c e =
     let d : (ran_from cs x).cause ≡ 13 → ⊥ = λ f. c (ap (λ (a : Ran). a.cause) k.ran ∙ f) in
     let n : t ≡ text (lines_from x.number (take r.lines ls) ++ end_line (x.used + r.used) r.cause) = ap text e in
-    rw (n, k.ran, k.written, shown_stored, ne_eqb (ran_from cs x).cause 13 d)
+    rw (n, k.ran, k.book, k.written, shown_stored, ne_eqb (ran_from cs x).cause 13 d)

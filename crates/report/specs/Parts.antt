@@ -1,5 +1,6 @@
 -- A statement in parts: the run is called again while lines are short (document 01, "Journal and due list").
-use Rattle.std.specs.Prelude.{ℕ, zero, suc, ◌+◌, ◌≡◌, Bool, true, false, cond, List, [], ◌∷◌, ◌++◌, eqb, ltb, length, take, drop, replicate, codes, Result, Ok, Err, Some, None}
+use Rattle.std.specs.Prelude.{ℕ, zero, suc, ◌+◌, ◌≡◌, Bool, true, false, cond, List, [], ◌∷◌, ◌++◌, eqb, ltb, length, take, drop, replicate, codes, Result, Ok, Err}
+use Rattle.std.specs.declared.ops.ControlFlow.TheVariants.{Continue, Break}
 use Rattle.wire.specs.Parts.{pasted}
 use Rattle.machine.specs.Opening.{blank_book}
 use Rattle.machine.specs.declared.state.Book.{Book}
@@ -114,6 +115,6 @@ abbrev pub first_of : Result Reached Refused → Part
 first_of (Ok x) = record { text = stored []; more = true; next = x }
 first_of (Err r) = whole (told r ++ (0x0A ∷ []))
 
--- Of a part its text, and from where the next one follows, where one does.
+-- Of a part its text, and how far it comes: the next one follows from there, or none does.
 abbrev pub handed : Part → Handed
-handed p = record { text = record { items = shown p.text }; next = cond p.more (Some p.next) None }
+handed p = record { text = record { items = shown p.text }; next = cond p.more (Continue p.next) (Break p.next) }

@@ -5,7 +5,7 @@ ghost use Rattle.decimals.specs.Numbers.{row};
 ghost use Rattle.report.specs.Lines.{fields, lines_from, end_line};
 
 use arrayvec::ArrayVec;
-use decimals::put_row;
+use decimals::push_row;
 use journal::Line;
 
 // Text with room for 64 lines and an end.
@@ -27,7 +27,7 @@ fn put_line(out: &mut Text, number: usize, line: Line)
         u64::from(answer.steps),
         answer.fee.0,
     ];
-    put_row(out, &numbers);
+    push_row(out, &numbers);
 }
 
 // Appends lines, numbered from a number on.
@@ -46,8 +46,9 @@ pub fn put_lines(out: &mut Text, lines: &[Line], number: usize)
 #[tactic(auto, using(std::proofs::Common::append_assoc), unfolding(crate::specs::Lines::end_line))]
 pub fn put_end(out: &mut Text, used: usize, cause: u64)
     requires { array_vec_len out.old + 46 ≤ 8110 }
-    ensures { out.new.items ≡ out.old.items ++ end_line used cause }
+    ensures text { out.new.items ≡ out.old.items ++ end_line used cause }
+    ensures size { array_vec_len out.new ≤ array_vec_len out.old + 46 }
 {
     out.try_extend_from_slice(b"end ").unwrap();
-    put_row(out, &[used as u64, cause]);
+    push_row(out, &[used as u64, cause]);
 }

@@ -9,6 +9,7 @@ use arbiter::{blank, opened};
 use journal::{Cause, Line, run};
 use machine::{Answer, Book, Cents};
 use std::fmt;
+use std::ops::ControlFlow;
 
 // Why an input has no journal to run.
 #[derive(Clone, Copy, Debug, PartialEq, Eq)]
@@ -29,18 +30,18 @@ impl fmt::Display for Refused {
 }
 
 // How far a statement has come: the book, the bytes used of the journal, the next line's number.
-#[derive(Drop)]
+#[derive(Clone, Copy)]
 pub struct Reached {
     pub book: Book,
     pub used: usize,
     pub number: usize,
 }
 
-// Some of a statement's text, and from where more of it follows.
+// Some of a statement's text, and how far it comes with it: more follows from there, or it ends there.
 #[derive(Drop)]
 pub struct Part {
     pub text: Text,
-    pub next: Option<Reached>,
+    pub next: ControlFlow<Reached, Reached>,
 }
 
 // Lines to write to.
@@ -95,13 +96,15 @@ pub fn next_part(input: &[u8], from: Reached) -> Part
     let mut lines = no_lines();
     let ran = run(&mut book, &input[16 + from.used..], &mut lines);
     let used = from.used + ran.used;
+    let number = from.number + ran.lines;
+    let reached = Reached { book, used, number };
     let mut text = Text::new();
     put_lines(&mut text, &lines[..ran.lines], from.number);
     if ran.cause == u64::from(Cause::NoLine) {
-        let number = from.number + ran.lines;
-        let next = Some(Reached { book, used, number });
+        let next = ControlFlow::Continue(reached);
         return Part { text, next };
     }
     put_end(&mut text, used, ran.cause);
-    Part { text, next: None }
+    let next = ControlFlow::Break(reached);
+    Part { text, next }
 }

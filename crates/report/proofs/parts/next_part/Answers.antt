@@ -30,4 +30,4 @@ returns-then-ran-from c =
 pub returns : goal.returns
 returns c =
     let k = runs c.args.input.now c.args.from _ _ _ _ (omega arith) c.no_lines-lines.ensures c.run-ran.ensures in
-    made_last _ _ _ _ _ _ k (λ e. c.if-ran-from.false (e ∙ sym c.from.ensures)) (rw (c.put_lines.ensures.text, c.new-text.ensures) at c.put_end.ensures)
+    made_last _ _ _ _ _ _ k (λ e. c.if-ran-from.false (e ∙ sym c.from.ensures)) (rw (c.put_lines.ensures.text, c.new-text.ensures) at c.put_end.ensures.text)
