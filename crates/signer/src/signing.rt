@@ -93,6 +93,7 @@ fn write_signature(
 }
 
 // Writes what a signing answers over zeros: in place, since tests/footprint.c holds a signing to 4,096 bytes copied.
+#[tactic(auto, using(crate::proofs::Answered::sign_long, crate::proofs::Answered::sign_none))]
 fn answer(
     signer: &Signer,
     nonce: &[u8],
