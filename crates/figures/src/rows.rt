@@ -65,11 +65,7 @@ fn settings_in(bytes: &[u8], dated: bool) -> Settings
 }
 
 // An opening by value: a refused one leaves the book that stood there.
-fn put_opened(
-    rt: &impl Print,
-    book: &mut Book,
-    opened: Result<Book, Refusal>,
-) -> io::Result<()> {
+fn put_opened(rt: &impl Print, book: &mut Book, opened: Result<Book, Refusal>) -> io::Result<()> {
     let told = match opened {
         Ok(fresh) => {
             *book = fresh;
@@ -93,11 +89,7 @@ fn open_with_row(rt: &impl Print, book: &mut Book, bytes: &[u8]) -> io::Result<(
         return Ok(());
     }
     let settings = settings_in(bytes, false);
-    put_opened(
-        rt,
-        book,
-        arbiter::opened_with(&bytes[8..], settings, &[0]),
-    )
+    put_opened(rt, book, arbiter::opened_with(&bytes[8..], settings, &[0]))
 }
 
 // The numbers of four bytes each, at most 72.
