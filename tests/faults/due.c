@@ -66,6 +66,10 @@ struct finaruvom_found finaruvom_due(const struct finaruvom_book *book) {
 #elif defined MENDED
     struct finaruvom_book other = mended(book);
     return right(&other);
+#elif defined COPIES
+    static struct finaruvom_book copy;
+    memcpy(&copy, book, sizeof copy);
+    return right(&copy);
 #elif defined UNMOVED_TIME
     struct finaruvom_book other = *book;
     for (struct finaruvom_channel *channel = other.channels; channel < other.channels + FINARUVOM_CHANNELS; channel++)

@@ -7,6 +7,10 @@ struct finaruvom_reading finaruvom_read(const struct finaruvom_book *book, size_
     struct finaruvom_book other = mended(book);
     book = &other;
 #endif
+#ifdef COPIES
+    static struct finaruvom_book copy;
+    memcpy(&copy, book, sizeof copy);
+#endif
     struct finaruvom_reading reading = right(book, n);
 #ifdef UNMOVED_TIME
     reading.deadline -= monday(book, reading.deadline) ? 2 * 86400 : 0;
