@@ -7,6 +7,6 @@ mod packed;
 mod reading;
 mod writing;
 
-pub use lists::{Counted, NoParty, Party, Payment, Refusal};
+pub use lists::{Counted, NoParty, Party, Payment, Refusal, accepted, refused};
 pub use reading::read;
 pub use writing::write;

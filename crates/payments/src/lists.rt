@@ -1,7 +1,7 @@
 // Payments, lists of them, and why they are refused.
 ghost use Rattle.std.specs.Prelude.{◌≡◌, false, MatchResult};
 ghost use Rattle.payments.specs.Payments.{is_party, number_of_party, listed, payment_of};
-ghost use Rattle.payments.specs.Answers.{number_of, counted_of};
+ghost use Rattle.payments.specs.Answers.{number_of, accepted, refused, counted_of};
 
 use machine::Cents;
 
@@ -39,6 +39,25 @@ pub enum Refusal {
 pub struct Counted {
     pub refusal: u64,
     pub payments: usize,
+}
+
+pub fn accepted(payments: usize) -> Counted
+    ensures { result ≡ accepted payments }
+{
+    Counted {
+        refusal: 0,
+        payments,
+    }
+}
+
+// By any number.
+pub fn refused(refusal: u64) -> Counted
+    ensures { result ≡ refused refusal }
+{
+    Counted {
+        refusal,
+        payments: 0,
+    }
 }
 
 impl From<Party> for u64 {
@@ -99,14 +118,8 @@ impl From<Result<usize, Refusal>> for Counted {
 
     fn from(answer: Result<usize, Refusal>) -> Counted {
         match answer {
-            Ok(payments) => Counted {
-                refusal: 0,
-                payments,
-            },
-            Err(r) => Counted {
-                refusal: u64::from(r),
-                payments: 0,
-            },
+            Ok(payments) => accepted(payments),
+            Err(r) => refused(u64::from(r)),
         }
     }
 }

@@ -6,7 +6,7 @@ ghost use Rattle.report.specs.Parts.{first_part, next_part, told, first_of, hand
 
 use crate::lines::{Text, put_end, put_lines};
 use arbiter::{blank, opened};
-use journal::{Cause, Line, run};
+use journal::{Cause, Line, run_of};
 use machine::{Answer, Book, Cents};
 use std::fmt;
 use std::ops::ControlFlow;
@@ -92,9 +92,8 @@ pub fn next_part(input: &[u8], from: Reached) -> Part
     requires { (16 + from.used ≤ length input.now) × (from.number ≤ from.used + 1) }
     ensures { result ≡ handed (next_part (drop 16 input.now) from) }
 {
-    let mut book = from.book;
-    let mut lines = no_lines();
-    let ran = run(&mut book, &input[16 + from.used..], &mut lines);
+    let done = run_of(from.book, &input[16 + from.used..], no_lines());
+    let (book, lines, ran) = (done.book, done.lines, done.ran);
     let used = from.used + ran.used;
     let number = from.number + ran.lines;
     let reached = Reached { book, used, number };
